@@ -1,0 +1,10 @@
+pub mod Bits
+pub mod ItemBack
+pub mod ItemsBack
+pub mod KindMoved
+pub mod KindBack
+pub mod HeaderBack
+pub mod WouldRead
+pub mod TypeRead
+pub mod PartsBack
+pub mod ReadsItself

@@ -1,0 +1,1 @@
+// What is written reads back as itself: laws only.
