@@ -84,7 +84,20 @@ pub fn number_at(line: &[u8], at: usize) -> Number
     }
 }
 
-// The octet that two digits at `at` spell; a star and a number after them repeat it.
+// The place after a comma, where there is one.
+fn after_comma(line: &[u8], at: usize) -> usize
+    requires { ⌜ at ≤ length (now line) ⌝ }
+    ensures { λ r. ⌜ r ≤ length (now (line .entry)) ⌝ }
+{
+    if at < line.len() {
+        if line[at] == b',' {
+            return at + 1;
+        }
+    }
+    at
+}
+
+// The octet that two digits at `at` spell; a star, a number and a comma after them repeat it.
 fn run_at(line: &[u8], at: usize) -> Run
     requires { ⌜ at ≤ length (now line) ⌝ }
     ensures { λ r. ⌜ r .next ≤ length (now (line .entry)) ⌝ }
@@ -117,10 +130,11 @@ fn run_at(line: &[u8], at: usize) -> Run
     if after < line.len() {
         if line[after] == b'*' {
             let n = number_at(line, after + 1);
+            let next = after_comma(line, n.next);
             return Run {
                 octet: octet,
                 times: n.value,
-                next: n.next,
+                next: next,
             };
         }
     }
@@ -208,6 +222,7 @@ fn print_run(octet: u8, n: usize) -> usize
     }
     print(b"*");
     print_number(n as u64);
+    print(b",");
     n
 }
 

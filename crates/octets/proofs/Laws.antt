@@ -1,17 +1,14 @@
 -- Octets that are stored and read, and stretches that do not meet. Assumes nothing.
 use mathlib.Core.Path.{_≡_, refl, sym, ap, _∙_}
 use mathlib.Core.List.{List, [], _∷_}
-use mathlib.Core.Bool.{true, false}
 use mathlib.Core.Logic.{_⊎_, inl, inr}
 use Prim.Native.Nat.{ℕ, zero, suc, _+_, _*_, _/_, _^_, _≤_, _<_}
 use native.Mathlib.Omega.{arith}
 use native.Mathlib.Nat.{div-lt-iff-lt-mul, pow-suc, add-zero, zero-add, mul-le-mul-right}
 use lib.ListN.{length, getD, take, drop, set, length-set, length-drop}
-use lib.Dec.{ltb}
-use borrow.Author.Tests.{ltb-true, ltb-false}
 use lib.Seq.{getD-take, getD-drop, length-take-le, getD-set-same, getD-set-other, ext-getD}
 use Rattle.seq.specs.Seq.{put}
-use Rattle.seq.proofs.Laws.{told}
+use Rattle.seq.proofs.Laws.{lt-or-le}
 use Rattle.octets.specs.Octets.{num, enc, gets}
 
 pub getD-before : (w t : List ℕ) (at k : ℕ) → k < at → getD (put t at w) k 0 ≡ getD t k 0
@@ -85,18 +82,6 @@ pub length-enc : (w v : ℕ) → length (enc w v) ≡ w
 unfolding enc
 length-enc zero v = refl
 length-enc (suc w) v = ap suc (length-enc w (v / 256))
-
-pub lt-or-le : (a b : ℕ) → (a < b) ⊎ (b ≤ a)
-lt-or-le a b = go (told (ltb a b)) where
-  go : (ltb a b ≡ true) ⊎ (ltb a b ≡ false) → (a < b) ⊎ (b ≤ a)
-  go (inl e) = inl (ltb-true a b e)
-  go (inr e) = inr (ltb-false a b e)
-
-pub below-or-last : (a b : ℕ) → a < suc b → (a < b) ⊎ (a ≡ b)
-below-or-last a b l = go (lt-or-le a b) where
-  go : (a < b) ⊎ (b ≤ a) → (a < b) ⊎ (a ≡ b)
-  go (inl e) = inl e
-  go (inr e) = inr (omega arith)
 
 pub two-sides : (i j : ℕ) → (i ≡ j → ⊥) → (i < j) ⊎ (j < i)
 two-sides i j n = go (lt-or-le i j) where

@@ -1,0 +1,4 @@
+pub mod Separate
+pub mod Counting
+pub mod Faults
+pub mod Order

@@ -1,0 +1,1 @@
+// Laws over separating and joining; there is no code here.

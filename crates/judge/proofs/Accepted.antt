@@ -1,0 +1,88 @@
+-- What is accepted can be written: the PDU said fits its source, is sound, and is as long as its words say. Assumes nothing.
+use Prim.Native.Nat.{ℕ, _+_, _*_, _%_, _≤_, _<_}
+use native.Mathlib.Omega.{arith}
+use mathlib.Core.Path.{_≡_, sym, ap, subst, _∙_}
+use mathlib.Core.List.{List}
+use mathlib.Core.Bool.{true, false}
+use lib.ListN.{length, getD, take}
+use lib.Dec.{ltb}
+use borrow.Author.Tests.{leb-true}
+use Rattle.seq.specs.Seq.{total}
+use Rattle.seq.proofs.Laws.{every-at, total-same}
+use Rattle.items.specs.Items.{noItem}
+use Rattle.items.specs.declared.Item.{Item}
+use Rattle.pdu.specs.Pdu.{soundOf}
+use Rattle.pdu.specs.declared.Pdu.{Pdu}
+use Rattle.words.specs.Said.{word, kindSaid, itemSaid, itemsSaid, pduSaid}
+use Rattle.writer.specs.Write.{headerOf, itemsOctets, octetsOf, FitItems, Fit, faultOf}
+use Rattle.writer.proofs.Headers.{header-length}
+use Rattle.writer.proofs.WholeOctets.{octets-length}
+use Rattle.judge.specs.Length.{placed, headerSaid, itemLength, lengthSaid}
+use Rattle.judge.specs.Widths.{inside}
+use Rattle.judge.specs.Judge.{itemInside, itemsInside, judgedOf, Writable}
+use Rattle.judge.proofs.Bounds.{Fitting}
+use Rattle.judge.proofs.Types.{Typed, kind-fits}
+use Rattle.judge.proofs.ItemLists.{octetsIn, fit-all, items-length}
+use Rattle.judge.proofs.SaidItems.{said-full, said-at, item-fits, item-long}
+use Rattle.judge.proofs.Passed.{few-items, Passed, passed, given}
+
+module _ (s w : List ℕ) (f : Fitting w (length s)) (few : word w 15 ≤ 16) where
+  module _ (lie : itemsInside (length s) (itemsSaid w) (word w 15) ≡ true) where
+    item-lies : (k : ℕ) → k < word w 15 → word w (24 + 4 * k + 2) + word w (24 + 4 * k + 3) ≤ length s
+    unfolding itemsInside inside itemSaid
+    item-lies k h =
+        let there : k < placed (word w 15) = omega arith in
+        leb-true (word w (24 + 4 * k + 2) + word w (24 + 4 * k + 3)) (length s)
+        (subst (λ (it : Item). inside (length s) (it .start) (it .len) ≡ true) (said-at w k (omega arith)) (every-at (itemInside (length s) (itemsSaid w)) (placed (word w 15)) lie k there))
+
+    said-items-fit : FitItems s (take (word w 15) (itemsSaid w))
+    said-items-fit =
+        fit-all s (itemsSaid w) (word w 15) (omega (arith, said-full w))
+        (λ (k : ℕ) (h : k < word w 15). rw (said-at w k (omega arith)) (item-fits w (length s) k f (omega arith) h s (item-lies k h)))
+
+    said-items-long : length (itemsOctets s false (take (word w 15) (itemsSaid w))) ≡ total (itemLength w) (word w 15)
+    said-items-long =
+        items-length s false (itemsSaid w) (word w 15) (omega (arith, said-full w)) said-items-fit
+        ∙ total-same (λ k. octetsIn (getD (itemsSaid w) k noItem)) (itemLength w) (word w 15)
+        (λ k h. ap octetsIn (said-at w k (omega arith)) ∙ item-long w (length s) k f (omega arith) h)
+
+    module _ (t : Typed (word w 0)) where
+      pub said-fits : Fit s (pduSaid w)
+      unfolding pduSaid
+      said-fits = record {
+        kind-fits = kind-fits s w f t .fits;
+        tid-fits = omega arith;
+        list-full = said-full w;
+        items-fit = said-items-fit;
+        user-fits = f .user-inside;
+      }
+
+      -- the octets of the PDU said are as many as its words say
+      pub said-long : length (octetsOf s (pduSaid w)) ≡ lengthSaid w
+      unfolding pduSaid lengthSaid
+      said-long =
+          let c : placed (word w 15) ≡ word w 15 = omega arith in
+          let a = octets-length s (pduSaid w) few said-fits in
+          let b : length (headerOf s (ltb 0 (word w 15)) (kindSaid w) (word w 4 % 65536)) ≡ headerSaid w = header-length s _ (kindSaid w) _ ∙ kind-fits s w f t .long in
+          rw c (omega (arith, a, b, said-items-long))
+
+-- WHAT IS ACCEPTED CAN BE WRITTEN
+pub accepted : (w s : List ℕ) (p : Pdu) → judgedOf w (length s) ≡ p → soundOf (p .kind) ≡ true → Writable s p
+unfolding faultOf pduSaid
+accepted w s p e t =
+    subst (Writable s) (sym (given w (length s) h) ∙ e)
+    (record {
+      fit = said-fits s w (h .fitting) few lie (h .type-said);
+      few = few;
+      sound = rw (h .clean .kind-sound, h .clean .rest-sound);
+      short = rw (said-long s w (h .fitting) few lie (h .type-said)) (h .not-long);
+    })
+  where
+    h : Passed w (length s)
+    h = passed w (length s) (ap (λ (q : Pdu). soundOf (q .kind)) e ∙ t)
+
+    few : word w 15 ≤ 16
+    few = few-items (pduSaid w) (h .clean .rest-sound)
+
+    lie : itemsInside (length s) (itemsSaid w) (word w 15) ≡ true
+    lie = h .clean .items-lie

@@ -1,0 +1,10 @@
+pub mod Steps
+pub mod Bounds
+pub mod Types
+pub mod ItemLists
+pub mod SaidItems
+pub mod Passed
+pub mod Accepted
+pub mod HeadFits
+pub mod Again
+pub mod InOrder

@@ -1,0 +1,4 @@
+pub mod Length
+pub mod Widths
+pub mod Judge
+pub mod Order

@@ -1,0 +1,102 @@
+-- The starred cases of document 01, "Bench cases", on octets: "proved together as one table".
+use Prim.Native.Nat.{ℕ}
+use mathlib.Core.Path.{_≡_}
+use mathlib.Core.List.{List, [], _∷_}
+use mathlib.Core.Bool.{true, false}
+use lib.ListN.{replicate}
+use Rattle.numbers.specs.declared.Malformed.{Malformed}
+use Rattle.numbers.specs.declared.Malformed.the-variants.{D1, D2, D5, D7}
+use Rattle.numbers.specs.declared.Verdict.{Verdict}
+use Rattle.numbers.specs.declared.Verdict.the-variants.{Sound}
+use Rattle.items.specs.Items.{noItem}
+use Rattle.pdu.specs.declared.Kind.{Kind}
+use Rattle.pdu.specs.declared.Kind.the-variants.{Invoke, Result, Ack, Wrong}
+use Rattle.pdu.specs.declared.Pdu.{Pdu}
+use Rattle.pdu.specs.Pdu.{blankPdu}
+use Rattle.reader.specs.Read.{pduOf}
+use Rattle.writer.specs.Write.{octetsOf, faultOf}
+use Rattle.datagram.specs.Separate.{Split, refused, parts, partsOf}
+
+-- a case: octets read as a PDU; a PDU, whose parts lie in a source, written as octets; octets malformed as a PDU; a datagram separated
+pub data Row : Type 0 where
+  reads : List ℕ → Pdu → Row
+  writes : List ℕ → Pdu → List ℕ → Row
+  malformed : List ℕ → Malformed → Row
+  separates : List ℕ → Split → Row
+
+-- what a case says
+unfoldable pub Says : Row → Type 0
+Says (reads octets p) = pduOf octets ≡ p
+Says (writes source p octets) = _≡_ {A = Verdict × List ℕ} (faultOf p, octetsOf source p) (Sound, octets)
+Says (malformed octets d) = pduOf octets ≡ blankPdu (Wrong d)
+Says (separates datagram split) = partsOf datagram ≡ split
+
+-- every case of a table holds
+infixr 5 _and_
+pub data AllSay : List Row → Type 0 where
+  done : AllSay []
+  _and_ : {r : Row} {rs : List Row} → Says r → AllSay rs → AllSay (r ∷ rs)
+
+-- a PDU of no items and no user data, which would begin at `end`
+abbrev pub plain : Kind → ℕ → ℕ → Pdu
+plain kind tid end = record { kind = kind; tid = tid; count = 0; list = replicate 16 noItem; start = end; len = 0 }
+
+-- 01: "class 2 Invoke, TID 5, no data: 0E 00 05 02"
+abbrev pub invoke : List ℕ
+invoke = 0x0E ∷ 0x00 ∷ 0x05 ∷ 0x02 ∷ []
+
+abbrev pub invokePdu : Pdu
+invokePdu = plain (Invoke true true false 0 false false 2) 5 4
+
+-- 01: "its repeat 0F 00 05 02"
+abbrev pub repeat : List ℕ
+repeat = 0x0F ∷ 0x00 ∷ 0x05 ∷ 0x02 ∷ []
+
+abbrev pub repeatPdu : Pdu
+repeatPdu = plain (Invoke true true true 0 false false 2) 5 4
+
+-- 01: "Result to it: 16 80 05": the TID's top bit is 1 towards the initiator
+abbrev pub result : List ℕ
+result = 0x16 ∷ 0x80 ∷ 0x05 ∷ []
+
+abbrev pub resultPdu : Pdu
+resultPdu = plain (Result true true false) 0x8005 3
+
+-- 01: "Last Ack with exit information AA BB: 98 00 05 0A AA BB"
+abbrev pub lastAck : List ℕ
+lastAck = 0x98 ∷ 0x00 ∷ 0x05 ∷ 0x0A ∷ 0xAA ∷ 0xBB ∷ []
+
+-- the last Ack whose exit information, Info item 1 of the short form, stands at `start` of its source
+abbrev pub lastAckPdu : ℕ → Pdu
+lastAckPdu start = record {
+  kind = Ack false false;
+  tid = 5;
+  count = 1;
+  list = record { identity = 1; long = false; start = start; len = 2 } ∷ replicate 15 noItem;
+  start = 0;
+  len = 0;
+}
+
+-- 01: "00 03 18 80 05 04 20 80 06 08 is two PDUs"
+abbrev pub twoPdus : List ℕ
+twoPdus = 0x00 ∷ 0x03 ∷ 0x18 ∷ 0x80 ∷ 0x05 ∷ 0x04 ∷ 0x20 ∷ 0x80 ∷ 0x06 ∷ 0x08 ∷ []
+
+-- the cases; the last Ack is written from its own octets and from its exit information alone
+abbrev pub table : List Row
+table =
+    reads invoke invokePdu
+    ∷ writes invoke invokePdu invoke
+    ∷ reads repeat repeatPdu
+    ∷ writes repeat repeatPdu repeat
+    ∷ reads result resultPdu
+    ∷ writes result resultPdu result
+    ∷ reads lastAck (lastAckPdu 4)
+    ∷ writes lastAck (lastAckPdu 4) lastAck
+    ∷ writes (0xAA ∷ 0xBB ∷ []) (lastAckPdu 0) lastAck
+    ∷ malformed (0x00 ∷ []) D2
+    ∷ malformed (0x0E ∷ 0x00 ∷ 0x05 ∷ []) D1
+    ∷ malformed (0x0E ∷ 0x00 ∷ 0x05 ∷ 0x03 ∷ []) D5
+    ∷ malformed (0x18 ∷ 0x80 ∷ 0x05 ∷ 0x00 ∷ []) D7
+    ∷ separates twoPdus (parts (record { start = 2; len = 3 } ∷ record { start = 6; len = 4 } ∷ []))
+    ∷ separates (0x00 ∷ 0x00 ∷ []) refused
+    ∷ []

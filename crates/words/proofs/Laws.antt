@@ -1,0 +1,45 @@
+-- The words of the items, four for each: their number, one item more, and what stands in each. Assumes nothing.
+use Prim.Native.Nat.{ℕ, _+_, _*_, _<_}
+use native.Mathlib.Omega.{arith}
+use native.Mathlib.Numerals.{add-one}
+use mathlib.Core.Path.{_≡_, refl, sym, ap, _∙_}
+use mathlib.Core.List.{List, [], _∷_, _++_, append-nil, append-assoc}
+use lib.ListN.{length, getD, take, set, length-append}
+use lib.Seq.{take-suc, take-suc-set, length-take-le}
+use Rattle.seq.specs.Seq.{put, tab}
+use Rattle.seq.proofs.Laws.{put-append, tab-last}
+use Rattle.items.specs.declared.Item.{Item}
+use Rattle.words.specs.Words.{itemWords, itemsWords}
+use Rattle.words.specs.Said.{itemSaid}
+
+pub length-items-words : (l : List Item) → length (itemsWords l) ≡ 4 * length l
+unfolding itemsWords itemWords
+length-items-words [] = refl
+length-items-words (it ∷ l) = omega (arith, length-items-words l)
+
+items-words-last : (l : List Item) (it : Item) → itemsWords (l ++ (it ∷ [])) ≡ itemsWords l ++ itemWords it
+unfolding itemsWords
+items-words-last [] it = append-nil (itemWords it)
+items-words-last (a ∷ l) it = ap (λ (x : List ℕ). itemWords a ++ x) (items-words-last l it) ∙ sym (append-assoc (itemWords a) (itemsWords l) (itemWords it))
+
+module _ (fields : List ℕ) (list : List Item) (k : ℕ) (it : Item) (inside : k < length list) where
+  -- the words of k items and then those of the next
+  pub one-more : put (put fields 24 (itemsWords (take k list))) (24 + 4 * k) (itemWords (getD list k it)) ≡ put fields 24 (itemsWords (take (k + 1) list))
+  one-more =
+      let n : 24 + length (itemsWords (take k list)) ≡ 24 + 4 * k = omega (arith, length-items-words (take k list), length-take-le k list (omega arith)) in
+      ap (λ (i : ℕ). put (put fields 24 (itemsWords (take k list))) i (itemWords (getD list k it))) (sym n)
+      ∙ sym (put-append (itemsWords (take k list)) (itemWords (getD list k it)) fields 24)
+      ∙ ap (put fields 24) (sym (items-words-last (take k list) (getD list k it)) ∙ ap itemsWords (sym (take-suc list k it inside)) ∙ rw add-one)
+
+-- stores one after the other, from the start on, are one store
+pub five-stores : (fields a b c d e : List ℕ) → length a ≡ 5 → length b ≡ 4 → length c ≡ 6 → length d ≡ 9
+    → put (put (put (put (put fields 0 a) 5 b) 9 c) 15 d) 24 e ≡ put fields 0 ((a ++ (b ++ (c ++ d))) ++ e)
+five-stores fields a b c d e la lb lc ld =
+    rw (put-append (a ++ (b ++ (c ++ d))) e fields 0, put-append a (b ++ (c ++ d)) fields 0, length-append a (b ++ (c ++ d)), length-append b (c ++ d), length-append c d, la, put-append b (c ++ d), put-append c d, lb, lc, ld)
+
+-- the items said by k quadruples of words, and then the next
+pub one-more-said : (w : List ℕ) (list : List Item) (k : ℕ) (it : Item) → k < length list → take k list ≡ tab (itemSaid w) k 0 → it ≡ itemSaid w k
+    → take (k + 1) (set list k it) ≡ tab (itemSaid w) (k + 1) 0
+one-more-said w list k it h e q =
+    let z : 0 + k ≡ k = omega arith in
+    rw (tab-last (itemSaid w) k 0, z, add-one) (take-suc-set list k it h ∙ rw (e, q))

@@ -1,0 +1,227 @@
+// The 88 words that the C interface has for a PDU: stored, and read.
+ghost use mathlib.Core.Path.{_≡_};
+ghost use Prim.Native.Nat.{_%_, _≤_, _<_};
+ghost use lib.ListN.{length};
+ghost use Rattle.seq.specs.Seq.{bit, put};
+ghost use Rattle.words.specs.Words.{frontWords, invokeWords, otherWords, itemWords, itemsWords, wordsOf};
+ghost use Rattle.words.specs.Said.{invokeSaid, kindSaid, itemSaid, itemsSaid, pduSaid};
+use items::Item;
+use numbers::Malformed;
+use numbers::Verdict;
+use pdu::Kind;
+use pdu::Pdu;
+
+fn flag(b: bool) -> u64
+    ensures { λ r. ⌜ r ≡ bit b ⌝ }
+{
+    if b { 1 } else { 0 }
+}
+
+// Words 0 to 4: type, GTR, TTR, RID, TID.
+fn front_words(kind: Kind, tid: u64) -> [u64; 5]
+    ensures { λ r. ⌜ r ≡ frontWords kind tid ⌝ }
+{
+    match kind {
+        Kind::Invoke { gtr, ttr, rid, .. } => [1, flag(gtr), flag(ttr), flag(rid), tid],
+        Kind::Result { gtr, ttr, rid } => [2, flag(gtr), flag(ttr), flag(rid), tid],
+        Kind::Ack { rid, .. } => [3, 0, 0, flag(rid), tid],
+        Kind::Abort { .. } => [4, 0, 0, 0, tid],
+        Kind::SegInvoke { gtr, ttr, rid, .. } => [5, flag(gtr), flag(ttr), flag(rid), tid],
+        Kind::SegResult { gtr, ttr, rid, .. } => [6, flag(gtr), flag(ttr), flag(rid), tid],
+        Kind::Nack { rid, .. } => [7, 0, 0, flag(rid), tid],
+        Kind::Wrong(_) => [0, 0, 0, 0, tid],
+        Kind::Refused(_) => [0, 0, 0, 0, tid],
+    }
+}
+
+// Words 5 to 8: version, TIDnew, U/P, class.
+fn invoke_words(kind: Kind) -> [u64; 4]
+    ensures { λ r. ⌜ r ≡ invokeWords kind ⌝ }
+{
+    match kind {
+        Kind::Invoke {
+            version,
+            tidnew,
+            up,
+            class,
+            ..
+        } => [version as u64, flag(tidnew), flag(up), class as u64],
+        Kind::Result { .. } => [0; 4],
+        Kind::Ack { .. } => [0; 4],
+        Kind::Abort { .. } => [0; 4],
+        Kind::SegInvoke { .. } => [0; 4],
+        Kind::SegResult { .. } => [0; 4],
+        Kind::Nack { .. } => [0; 4],
+        Kind::Wrong(_) => [0; 4],
+        Kind::Refused(_) => [0; 4],
+    }
+}
+
+// Words 9 to 14: Tve/Tok, abort type, abort reason, packet number, Nack count, start of the Nack list.
+fn other_words(kind: Kind) -> [u64; 6]
+    ensures { λ r. ⌜ r ≡ otherWords kind ⌝ }
+{
+    match kind {
+        Kind::Invoke { .. } => [0; 6],
+        Kind::Result { .. } => [0; 6],
+        Kind::Ack { tve, .. } => [flag(tve), 0, 0, 0, 0, 0],
+        Kind::Abort { abort_type, reason } => [0, abort_type as u64, reason as u64, 0, 0, 0],
+        Kind::SegInvoke { packet, .. } => [0, 0, 0, packet as u64, 0, 0],
+        Kind::SegResult { packet, .. } => [0, 0, 0, packet as u64, 0, 0],
+        Kind::Nack { count, list, .. } => [0, 0, 0, 0, count as u64, list as u64],
+        Kind::Wrong(_) => [0; 6],
+        Kind::Refused(_) => [0; 6],
+    }
+}
+
+fn item_words(it: Item) -> [u64; 4]
+    ensures { λ r. ⌜ r ≡ itemWords it ⌝ }
+{
+    let long = flag(it.long);
+    [it.identity as u64, long, it.start as u64, it.len as u64]
+}
+
+// Stores the words of the items, four for each, from word 24 on.
+fn store_items(fields: &mut [u64], list: [Item; 16])
+    requires { ⌜ 88 ≤ length (now fields) ⌝ }
+    ensures { λ _. ⌜ now (fields .exit) ≡ put (now (fields .entry)) 24 (itemsWords list) ⌝ }
+{
+    let mut k = 0;
+    while k < 16 {
+        let it = list[k];
+        let four = item_words(it);
+        seq::store_words(&mut *fields, 24 + 4 * k, &four);
+        k += 1;
+    }
+}
+
+// Stores the words of a PDU.
+pub fn store_fields(fields: &mut [u64], p: Pdu)
+    requires { ⌜ 88 ≤ length (now fields) ⌝ }
+    ensures { λ _. ⌜ now (fields .exit) ≡ put (now (fields .entry)) 0 (wordsOf p) ⌝ }
+{
+    let kind = p.kind;
+    let list = p.list;
+    let front = front_words(kind, p.tid as u64);
+    let invoke = invoke_words(kind);
+    let other = other_words(kind);
+    let count = p.count as u64;
+    let start = p.start as u64;
+    let len = p.len as u64;
+    let rest = [count, start, len, 0, 0, 0, 0, 0, 0];
+    seq::store_words(&mut *fields, 0, &front);
+    seq::store_words(&mut *fields, 5, &invoke);
+    seq::store_words(&mut *fields, 9, &other);
+    seq::store_words(&mut *fields, 15, &rest);
+    store_items(fields, list);
+}
+
+fn octet(x: u64) -> u8
+    ensures { λ r. ⌜ r ≡ x % 256 ⌝ }
+{
+    (x % 256) as u8
+}
+
+// The Invoke that words 1 to 8 say.
+fn invoke_said(words: &[u64]) -> Kind
+    requires { ⌜ 88 ≤ length (now words) ⌝ }
+    ensures { λ r. ⌜ r ≡ invokeSaid (now (words .entry)) ⌝ }
+{
+    Kind::Invoke {
+        gtr: words[1] == 1,
+        ttr: words[2] == 1,
+        rid: words[3] == 1,
+        version: octet(words[5]),
+        tidnew: words[6] == 1,
+        up: words[7] == 1,
+        class: octet(words[8]),
+    }
+}
+
+// The kind that words 0 to 14 say.
+fn kind_said(words: &[u64]) -> Kind
+    requires { ⌜ 88 ≤ length (now words) ⌝ }
+    ensures { λ r. ⌜ r ≡ kindSaid (now (words .entry)) ⌝ }
+{
+    let gtr = words[1] == 1;
+    let ttr = words[2] == 1;
+    let rid = words[3] == 1;
+    let packet = octet(words[12]);
+    match words[0] {
+        1 => invoke_said(words),
+        2 => Kind::Result { gtr, ttr, rid },
+        3 => Kind::Ack {
+            tve: words[9] == 1,
+            rid,
+        },
+        4 => Kind::Abort {
+            abort_type: octet(words[10]),
+            reason: octet(words[11]),
+        },
+        5 => Kind::SegInvoke {
+            gtr,
+            ttr,
+            rid,
+            packet,
+        },
+        6 => Kind::SegResult {
+            gtr,
+            ttr,
+            rid,
+            packet,
+        },
+        7 => Kind::Nack {
+            rid,
+            count: octet(words[13]),
+            list: words[14] as usize,
+        },
+        _ => Kind::Wrong(Malformed::D2),
+    }
+}
+
+// The item k that its four words say.
+fn item_said(words: &[u64], k: usize) -> Item
+    requires { ⌜ (88 ≤ length (now words)) × (k < 16) ⌝ }
+    ensures { λ r. ⌜ r ≡ itemSaid (now (words .entry)) k ⌝ }
+{
+    let at = 24 + 4 * k;
+    Item {
+        identity: octet(words[at]),
+        long: words[at + 1] == 1,
+        start: words[at + 2] as usize,
+        len: words[at + 3] as usize,
+    }
+}
+
+// All 16 items, also those past the number of items.
+fn items_said(words: &[u64]) -> [Item; 16]
+    requires { ⌜ 88 ≤ length (now words) ⌝ }
+    ensures { λ r. ⌜ r ≡ itemsSaid (now (words .entry)) ⌝ }
+{
+    let none = items::none(Verdict::Sound, 0);
+    let mut list = none.list;
+    let mut k = 0;
+    while k < 16 {
+        let it = item_said(words, k);
+        list[k] = it;
+        k += 1;
+    }
+    list
+}
+
+// The PDU that words say, whatever is wrong with it.
+pub fn said(words: &[u64]) -> Pdu
+    requires { ⌜ 88 ≤ length (now words) ⌝ }
+    ensures { λ r. ⌜ r ≡ pduSaid (now (words .entry)) ⌝ }
+{
+    let kind = kind_said(words);
+    let list = items_said(words);
+    Pdu {
+        kind,
+        tid: (words[4] % 65536) as u16,
+        count: words[15] as usize,
+        list,
+        start: words[16] as usize,
+        len: words[17] as usize,
+    }
+}

@@ -1,0 +1,11 @@
+pub mod Bits
+pub mod Agree
+pub mod Walk
+pub mod Header
+pub mod View
+pub mod Lengths
+pub mod Found
+pub mod Back
+pub mod WalkAgain
+pub mod HeaderAgain
+pub mod Again

@@ -1,0 +1,1 @@
+// What was read is written as it was, reserved bits cleared: laws only.
