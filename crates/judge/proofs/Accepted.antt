@@ -4,11 +4,13 @@ use native.Mathlib.Omega.{arith}
 use mathlib.Core.Path.{_≡_, sym, ap, subst, _∙_}
 use mathlib.Core.List.{List}
 use mathlib.Core.Bool.{true, false}
+use mathlib.Core.Logic.{_⊎_, inl, inr}
 use lib.ListN.{length, getD, take}
+use lib.Seq.{take-all}
 use lib.Dec.{ltb}
 use borrow.Author.Tests.{leb-true}
 use Rattle.seq.specs.Seq.{total}
-use Rattle.seq.proofs.Laws.{every-at, total-same}
+use Rattle.seq.proofs.Laws.{lt-or-le, every-at, total-same}
 use Rattle.items.specs.Items.{noItem}
 use Rattle.items.specs.declared.Item.{Item}
 use Rattle.pdu.specs.Pdu.{soundOf}
@@ -26,38 +28,47 @@ use Rattle.judge.proofs.ItemLists.{octetsIn, fit-all, items-length}
 use Rattle.judge.proofs.SaidItems.{said-full, said-at, item-fits, item-long}
 use Rattle.judge.proofs.Passed.{few-items, Passed, passed, given}
 
-module _ (s w : List ℕ) (f : Fitting w (length s)) (few : word w 15 ≤ 16) where
-  module _ (lie : itemsInside (length s) (itemsSaid w) (word w 15) ≡ true) where
-    item-lies : (k : ℕ) → k < word w 15 → word w (24 + 4 * k + 2) + word w (24 + 4 * k + 3) ≤ length s
-    unfolding itemsInside inside itemSaid
-    item-lies k h =
-        let there : k < placed (word w 15) = omega arith in
-        leb-true (word w (24 + 4 * k + 2) + word w (24 + 4 * k + 3)) (length s)
-        (subst (λ (it : Item). inside (length s) (it .start) (it .len) ≡ true) (said-at w k (omega arith)) (every-at (itemInside (length s) (itemsSaid w)) (placed (word w 15)) lie k there))
+-- of 16 places, those that there are items for
+take-placed : (c : ℕ) (l : List Item) → length l ≡ 16 → take c l ≡ take (placed c) l
+take-placed c l full = go (lt-or-le c 16)
+  where
+    go : (c < 16) ⊎ (16 ≤ c) → take c l ≡ take (placed c) l
+    go (inl h) = let e : placed c ≡ c = omega arith in rw e
+    go (inr h) = take-all c l (omega arith) ∙ sym (take-all (placed c) l (omega arith))
 
-    said-items-fit : FitItems s (take (word w 15) (itemsSaid w))
-    said-items-fit =
-        fit-all s (itemsSaid w) (word w 15) (omega (arith, said-full w))
-        (λ (k : ℕ) (h : k < word w 15). rw (said-at w k (omega arith)) (item-fits w (length s) k f (omega arith) h s (item-lies k h)))
+module _ (s w : List ℕ) (f : Fitting w (length s)) (lie : itemsInside (length s) (itemsSaid w) (word w 15) ≡ true) where
+  item-lies : (k : ℕ) → k < placed (word w 15) → word w (24 + 4 * k + 2) + word w (24 + 4 * k + 3) ≤ length s
+  unfolding itemsInside inside itemSaid
+  item-lies k h =
+      leb-true (word w (24 + 4 * k + 2) + word w (24 + 4 * k + 3)) (length s)
+      (subst (λ (it : Item). inside (length s) (it .start) (it .len) ≡ true) (said-at w k (omega arith)) (every-at (itemInside (length s) (itemsSaid w)) (placed (word w 15)) lie k h))
 
-    said-items-long : length (itemsOctets s false (take (word w 15) (itemsSaid w))) ≡ total (itemLength w) (word w 15)
-    said-items-long =
-        items-length s false (itemsSaid w) (word w 15) (omega (arith, said-full w)) said-items-fit
-        ∙ total-same (λ k. octetsIn (getD (itemsSaid w) k noItem)) (itemLength w) (word w 15)
-        (λ k h. ap octetsIn (said-at w k (omega arith)) ∙ item-long w (length s) k f (omega arith) h)
+  said-items-fit : FitItems s (take (word w 15) (itemsSaid w))
+  said-items-fit =
+      rw (take-placed (word w 15) (itemsSaid w) (said-full w))
+      (fit-all s (itemsSaid w) (placed (word w 15)) (omega (arith, said-full w))
+      (λ (k : ℕ) (h : k < placed (word w 15)). rw (said-at w k (omega arith)) (item-fits w (length s) k f (omega arith) (omega arith) s (item-lies k h))))
 
-    module _ (t : Typed (word w 0)) where
-      pub said-fits : Fit s (pduSaid w)
-      unfolding pduSaid
-      said-fits = record {
-        kind-fits = kind-fits s w f t .fits;
-        tid-fits = omega arith;
-        list-full = said-full w;
-        items-fit = said-items-fit;
-        user-fits = f .user-inside;
-      }
+  module _ (t : Typed (word w 0)) where
+    -- the PDU said fits, however many items it says
+    pub said-fits : Fit s (pduSaid w)
+    unfolding pduSaid
+    said-fits = record {
+      kind-fits = kind-fits s w f t .fits;
+      tid-fits = omega arith;
+      list-full = said-full w;
+      items-fit = said-items-fit;
+      user-fits = f .user-inside;
+    }
 
-      -- the octets of the PDU said are as many as its words say
+    module _ (few : word w 15 ≤ 16) where
+      said-items-long : length (itemsOctets s false (take (word w 15) (itemsSaid w))) ≡ total (itemLength w) (word w 15)
+      said-items-long =
+          items-length s false (itemsSaid w) (word w 15) (omega (arith, said-full w)) said-items-fit
+          ∙ total-same (λ k. octetsIn (getD (itemsSaid w) k noItem)) (itemLength w) (word w 15)
+          (λ k h. ap octetsIn (said-at w k (omega arith)) ∙ item-long w (length s) k f (omega arith) h)
+
+      -- its octets are as many as its words say
       pub said-long : length (octetsOf s (pduSaid w)) ≡ lengthSaid w
       unfolding pduSaid lengthSaid
       said-long =
@@ -72,10 +83,10 @@ unfolding faultOf pduSaid
 accepted w s p e t =
     subst (Writable s) (sym (given w (length s) h) ∙ e)
     (record {
-      fit = said-fits s w (h .fitting) few lie (h .type-said);
+      fit = said-fits s w (h .fitting) lie (h .type-said);
       few = few;
       sound = rw (h .clean .kind-sound, h .clean .rest-sound);
-      short = rw (said-long s w (h .fitting) few lie (h .type-said)) (h .not-long);
+      short = rw (said-long s w (h .fitting) lie (h .type-said) few) (h .not-long);
     })
   where
     h : Passed w (length s)

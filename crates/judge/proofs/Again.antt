@@ -133,7 +133,7 @@ module _ (s : List ℕ) (p : Pdu) (rest : List ℕ) (r : AsRead s p) where
       let t : Typed (word (stored p rest) 0) = subst (λ (x : List ℕ). Typed (word x 0)) (sym (head-first p rest)) (head .type-said) in
       let c : Faultless (length s) (pduSaid (stored p rest)) = subst (Faultless (length s)) (sym same) clean in
       let few : word (stored p rest) 15 ≤ 16 = rw count-said (r .writable .few) in
-      let long : lengthSaid (stored p rest) ≡ length (octetsOf s p) = sym (said-long s (stored p rest) fitting few (c .items-lie) t) ∙ ap (λ (q : Pdu). length (octetsOf s q)) same in
+      let long : lengthSaid (stored p rest) ≡ length (octetsOf s p) = sym (said-long s (stored p rest) fitting (c .items-lie) t few) ∙ ap (λ (q : Pdu). length (octetsOf s q)) same in
       record { type-said = t; not-long = rw long (r .writable .short); fitting = fitting; clean = c }
 
   -- WHAT WAS READ IS ACCEPTED, AND IS THE SAME

@@ -81,7 +81,7 @@ module _ (w : List ℕ) (n : ℕ) where
       go (inr a) (inr b) c = inr (tells-lt 16 (word w 15) .1 a, inr ((λ d. bare-told t .1 b (d .0)), rw (a, b)))
 
   -- D3
-  past-told : itemsInside n (itemsSaid w) (word w 15) ≡ false → ItemPast w n
+  pub past-told : itemsInside n (itemsSaid w) (word w 15) ≡ false → ItemPast w n
   unfolding itemsInside inside itemSaid
   past-told e =
       let r = some-fails (itemInside n (itemsSaid w)) (placed (word w 15)) e in
@@ -147,7 +147,7 @@ module _ (w : List ℕ) (n : ℕ) where
   fault-first t f = kind-first (kindFault (kindSaid w)) _ (itemReasons w n) (kind-told t f) (items-first t)
 
   -- D1
-  wide-told : fits w n ≡ false → TooWide w n
+  pub wide-told : fits w n ≡ false → TooWide w n
   unfolding fits noneTooWide inside
   wide-told e = go (told (noneTooWide w)) (told (inside n (word w 14) (word w 13))) e
     where

@@ -8,3 +8,4 @@ pub mod Accepted
 pub mod HeadFits
 pub mod Again
 pub mod InOrder
+pub mod Verdicts

@@ -47,12 +47,12 @@ tame-kind t f x u v = go (eqb t 1) (eqb (x % 4) 3) (eqb t 2) (eqb t 3) (eqb t 4)
   where
     go : (one three two ack abort over segInvoke segResult nack : Bool)
         → Tame (pick one (pick three (Wrong D5) (Invoke (flag 4 f) (flag 2 f) (lowest f) (x / 64) (flag 32 x) (flag 16 x) (x % 4)))
-          (pick two (Result (flag 4 f) (flag 2 f) (lowest f))
-          (pick ack (Ack (flag 4 f) (lowest f))
-          (pick abort (pick over (Wrong D6) (Abort f x))
-          (pick segInvoke (SegInvoke (flag 4 f) (flag 2 f) (lowest f) x)
-          (pick segResult (SegResult (flag 4 f) (flag 2 f) (lowest f) x)
-          (pick nack (Nack (lowest f) x 4) (Wrong D2))))))))
+        (pick two (Result (flag 4 f) (flag 2 f) (lowest f))
+        (pick ack (Ack (flag 4 f) (lowest f))
+        (pick abort (pick over (Wrong D6) (Abort f x))
+        (pick segInvoke (SegInvoke (flag 4 f) (flag 2 f) (lowest f) x)
+        (pick segResult (SegResult (flag 4 f) (flag 2 f) (lowest f) x)
+        (pick nack (Nack (lowest f) x 4) (Wrong D2))))))))
     go true true b c d e g h k = tame-wrong D5
     go true false b c d e g h k = tame-invoke _ _ _ (x / 64) _ _ (x % 4) (omega arith) (omega arith)
     go false a true c d e g h k = λ _. tt
@@ -81,7 +81,7 @@ module _ (b : List ℕ) (octets : Octets b) where
     where
       go : (none over short result ack cut nack list : Bool)
           → Tame (pick none (badHead D2) (pick over (badHead D2) (pick short (badHead D1) (pick result (goodHead b 2 0 3) (pick ack (goodHead b 3 0 3)
-            (pick cut (badHead D1) (pick nack (pick list (badHead D1) (goodHead b 7 (getD b 3 0) (getD b 3 0 + 4))) (goodHead b (typeOf b) (getD b 3 0) 4))))))) .kind)
+          (pick cut (badHead D1) (pick nack (pick list (badHead D1) (goodHead b 7 (getD b 3 0) (getD b 3 0 + 4))) (goodHead b (typeOf b) (getD b 3 0) 4))))))) .kind)
       go true p q r s t u v = tame-wrong D2
       go false true q r s t u v = tame-wrong D2
       go false false true r s t u v = tame-wrong D1
@@ -115,7 +115,7 @@ module _ (b : List ℕ) (octets : Octets b) where
     where
       go : (none long sound : Bool)
           → Tame (pick none (blankPdu (Refused WrongLength)) (pick long (blankPdu (Refused WrongLength))
-            (pick sound (finishBy (itemsAfter b (headOf b) .verdict) b (headOf b) (itemsAfter b (headOf b))) (blankPdu (headOf b .kind)))) .kind)
+          (pick sound (finishBy (itemsAfter b (headOf b) .verdict) b (headOf b) (itemsAfter b (headOf b))) (blankPdu (headOf b .kind)))) .kind)
       go true long sound = refused
       go false true sound = refused
       go false false true = tame-finish (itemsAfter b (headOf b) .verdict) (headOf b) (itemsAfter b (headOf b)) tame-head

@@ -1,5 +1,5 @@
--- The starred cases of document 01, "Bench cases", on octets: "proved together as one table".
-use Prim.Native.Nat.{ℕ}
+-- The starred cases of document 01, "Bench cases": "proved together as one table".
+use Prim.Native.Nat.{ℕ, _+_}
 use mathlib.Core.Path.{_≡_}
 use mathlib.Core.List.{List, [], _∷_}
 use mathlib.Core.Bool.{true, false}
@@ -15,14 +15,19 @@ use Rattle.pdu.specs.declared.Pdu.{Pdu}
 use Rattle.pdu.specs.Pdu.{blankPdu}
 use Rattle.reader.specs.Read.{pduOf}
 use Rattle.writer.specs.Write.{octetsOf, faultOf}
+use Rattle.tids.specs.Tids.{testOf}
+use Rattle.tids.specs.declared.Test.{Test}
+use Rattle.tids.specs.declared.Test.the-variants.{Valid, Verified}
 use Rattle.datagram.specs.Separate.{Split, refused, parts, partsOf}
 
--- a case: octets read as a PDU; a PDU, whose parts lie in a source, written as octets; octets malformed as a PDU; a datagram separated
+-- a case: octets read as a PDU; a PDU, whose parts lie in a source, written as octets; octets malformed as a PDU; a datagram separated;
+-- the test of a TID where LastTID is cached
 pub data Row : Type 0 where
   reads : List ℕ → Pdu → Row
   writes : List ℕ → Pdu → List ℕ → Row
   malformed : List ℕ → Malformed → Row
   separates : List ℕ → Split → Row
+  tests : ℕ → ℕ → Test → Row
 
 -- what a case says
 unfoldable pub Says : Row → Type 0
@@ -30,6 +35,7 @@ Says (reads octets p) = pduOf octets ≡ p
 Says (writes source p octets) = _≡_ {A = Verdict × List ℕ} (faultOf p, octetsOf source p) (Sound, octets)
 Says (malformed octets d) = pduOf octets ≡ blankPdu (Wrong d)
 Says (separates datagram split) = partsOf datagram ≡ split
+Says (tests last tid test) = testOf (last + 1) tid ≡ test
 
 -- every case of a table holds
 infixr 5 _and_
@@ -99,4 +105,7 @@ table =
     ∷ malformed (0x18 ∷ 0x80 ∷ 0x05 ∷ 0x00 ∷ []) D7
     ∷ separates twoPdus (parts (record { start = 2; len = 3 } ∷ record { start = 6; len = 4 } ∷ []))
     ∷ separates (0x00 ∷ 0x00 ∷ []) refused
+    ∷ tests 32767 0 Valid
+    ∷ tests 0 16383 Valid
+    ∷ tests 0 16384 Verified
     ∷ []

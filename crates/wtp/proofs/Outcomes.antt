@@ -17,6 +17,8 @@ use Rattle.reader.specs.Read.{pduOf}
 use Rattle.words.specs.Words.{wordsOf}
 use Rattle.write.specs.Writing.{Done, done, written, writtenAnswer, outputAfter}
 use Rattle.write.specs.declared.Written.{Written}
+use Rattle.fresh.specs.Fresh.{Left, left, leftBy, freshAnswer, tableAfter}
+use Rattle.fresh.specs.declared.Fresh.{Fresh}
 use Rattle.wtp.specs.Calls.{kindNumber, readNumber, fieldsAfter}
 
 -- a PDU of a sound kind is accepted
@@ -50,3 +52,8 @@ module _ (s fields : List ℕ) where
 pub writing : (fields bytes out : List ℕ) (a : Written) (o : List ℕ) → done a o ≡ written fields bytes out → (a ≡ writtenAnswer fields bytes out) × (o ≡ outputAfter fields bytes out)
 unfolding written
 writing fields bytes out a o e = (ap (λ (d : Done). d .answer) e, ap (λ (d : Done). d .output) e)
+
+-- the fresh-table call's equation, part by part
+pub freshly : (t ws : List ℕ) (first : ℕ) (a : Fresh) (o : List ℕ) → left a o ≡ leftBy t ws first → (a ≡ freshAnswer (length t) ws first) × (o ≡ tableAfter (freshAnswer (length t) ws first) t ws first)
+unfolding leftBy
+freshly t ws first a o e = (ap (λ (l : Left). l .answer) e, ap (λ (l : Left). l .table) e)

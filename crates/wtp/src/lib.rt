@@ -3,12 +3,33 @@ ghost use mathlib.Core.Path.{_≡_};
 ghost use Prim.Native.Nat.{_≤_};
 ghost use lib.ListN.{length};
 ghost use Rattle.seq.specs.Seq.{put};
+ghost use Rattle.fresh.specs.Fresh.{tableBytes, freshAnswer, freshNumber, tableAfter};
 ghost use Rattle.wtp.specs.Calls.{kindNumber, readNumber, fieldsAfter, writeNumber, writeOutput, writeAnswer, separateNumber, partAfter, joinNumber, joinOutput, joinAnswer, lengthAnswer};
 use datagram::Separation;
+use fresh::Fresh;
 use joiner::Joining;
 use numbers::Refusal;
 use pdu::Kind;
 use write::Written;
+
+// The bytes of a table for 1 to 48 records, else 0.
+#[no_mangle]
+pub extern "C" fn wtp_table_bytes(records: u64) -> u64
+    ensures { λ r. ⌜ r ≡ tableBytes records ⌝ }
+{
+    fresh::table_bytes(records)
+}
+
+// Makes a table fresh.
+#[no_mangle]
+pub extern "C" fn wtp_fresh(table: &mut [u8], settings: &[u64], first_tid: u64) -> u64
+    ensures { λ r. ⌜ (r ≡ freshNumber (freshAnswer (length (now (table .entry))) (now (settings .entry)) «first_tid»)) × (now (table .exit) ≡ tableAfter (freshAnswer (length (now (table .entry))) (now (settings .entry)) «first_tid») (now (table .entry)) (now (settings .entry)) «first_tid») ⌝ }
+{
+    match fresh::make_fresh(table, settings, first_tid) {
+        Fresh::Made => 0,
+        Fresh::Refused(r) => numbers::number(r),
+    }
+}
 
 // The result of a call that read a PDU of this kind.
 fn number_of(kind: Kind) -> u64

@@ -1,0 +1,6 @@
+pub mod Fields
+pub mod First
+pub mod Best
+pub mod Tests
+pub mod Meaning
+pub mod Earliest

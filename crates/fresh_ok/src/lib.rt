@@ -1,0 +1,1 @@
+// The fresh-table call leaves a well-formed table: laws only.

@@ -1,0 +1,46 @@
+-- `header_ok::cached_ok` meets its contract: there is a mark exactly where a cached TID passed is out of range. Assumes nothing.
+use mathlib.Core.Path.{_≡_, refl}
+use Prim.Native.Nat.{_-_, _≤_}
+use denote.Ref.{now}
+use lib.Dec.{leb, eqb}
+use Rattle.seq.specs.Seq.{every}
+use Rattle.seq.proofs.Every.{marks-more, marks-done}
+use Rattle.table.specs.Table.{cachedOf}
+use Rattle.ranges.specs.Ranges.{peers}
+use Rattle.header_ok.specs.Header.{cachedBound}
+use borrow.Author.Needs.{needs}
+use Rattle.header_ok.proofs.cached_ok.Statement.{statement}
+use Rattle.header_ok.proofs.cached_ok.Tie as tie
+
+abbrev Inv-loop : tie.InvT-loop
+Inv-loop t marks₀ peer₀ marks peer = (peer ≤ peers) × (eqb marks 0 ≡ every (λ p. leb (cachedOf t p) cachedBound) peer)
+
+abbrev μ-loop : tie.MeasureT-loop
+μ-loop t marks₀ peer₀ marks peer = peers - peer
+
+loop-holds : tie.Need-loop-holds Inv-loop μ-loop
+unfolding every
+loop-holds c = (search needs, refl)
+
+over-requires : tie.Need-over-requires Inv-loop μ-loop
+over-requires c κs = search needs
+
+add-peer : tie.Need-add-peer Inv-loop μ-loop
+add-peer c = search needs
+
+loop-less : tie.Need-loop-less Inv-loop μ-loop
+loop-less c = search needs
+
+loop-again : tie.Need-loop-again Inv-loop μ-loop
+loop-again c =
+    let a = c .before .before .before .before .args in
+    let l = c .before .before .loop in
+    (search needs, marks-more (λ p. leb (cachedOf (now (a .t)) p) cachedBound) (l .peer) (l .marks) (c .over .result) (c .before .before .loop .inv .1) (c .over .ensures))
+
+returns : tie.Need-returns Inv-loop μ-loop
+returns c = marks-done (λ p. leb (cachedOf (now (c .before .before .before .args .t)) p) cachedBound) peers (c .before .loop .peer) (c .before .loop .marks) (c .before .loop .inv .0) (c .loop-test .left) (c .before .loop .inv .1)
+
+pub cached-ok-spec : {M : Type 1} → statement M
+cached-ok-spec =
+    tie.close
+    (tie.spec Inv-loop μ-loop loop-holds over-requires add-peer loop-less loop-again returns)

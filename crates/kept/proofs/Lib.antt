@@ -1,0 +1,3 @@
+pub mod InRecord
+pub mod InHeader
+pub mod Keeps

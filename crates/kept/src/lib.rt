@@ -1,0 +1,1 @@
+// No code: what leaves a well-formed table well formed.

@@ -1,0 +1,96 @@
+-- `names_ok::names_ok` meets its contract: the names passed are new, and their keys are gathered. Assumes nothing.
+use mathlib.Core.Path.{_≡_, sym, _∙_}
+use mathlib.Core.Bool.{true}
+use mathlib.Core.List.{List}
+use Prim.Native.Nat.{ℕ, _-_, _≤_, _<_}
+use native.Mathlib.Omega.{arith}
+use denote.Ref.{now}
+use Rattle.seq.proofs.Laws.{every-fails, every-more, every-none}
+use Rattle.seq.specs.Seq.{every}
+use Rattle.seq.proofs.Every.{every-done}
+use Rattle.table.specs.Table.{recordAt}
+use Rattle.ranges.specs.Ranges.{recordsBound}
+use Rattle.ranges.proofs.InTurn.{held, broke}
+use Rattle.names_ok.specs.Names.{Keyed, newName, namesOk}
+use Rattle.names_ok.proofs.Keys.{Keys, keys-none, keys-more, key-new}
+use borrow.Author.Needs.{needs}
+use Rattle.names_ok.proofs.names_ok.Statement.{statement}
+use Rattle.names_ok.proofs.names_ok.Tie as tie
+
+abbrev Inv-loop : tie.InvT-loop
+Inv-loop t n keys₀ i₀ keys i = (i ≤ n) × Keys t keys i × (every (newName t) i ≡ true)
+
+abbrev μ-loop : tie.MeasureT-loop
+μ-loop t n keys₀ i₀ keys i = n - i
+
+-- what the code knows of record i once its key is tested
+module _ (c : tie.After-new-key Inv-loop μ-loop) where
+  abbrev table-of : List ℕ
+  table-of = now (c .before .before .before .before .before .before .before .args .t)
+
+  abbrev place : ℕ
+  place = c .before .before .before .before .before .loop .i
+
+  below : place < recordsBound
+  below = omega arith
+
+  keyed : Keyed (recordAt table-of place) (c .before .before .key-of .result)
+  keyed = rw (c .before .before .before .record-at .ensures) at (c .before .before .key-of .ensures)
+
+  judged : c .new-key .result ≡ newName table-of place
+  judged = c .new-key .ensures ∙ key-new table-of (c .before .before .before .before .before .loop .keys) place _ below (c .before .before .before .before .before .loop .inv .1) keyed
+
+loop-holds : tie.Need-loop-holds Inv-loop μ-loop
+loop-holds c = (search needs, keys-none (now (c .before .args .t)), every-none _)
+
+record-at-requires : tie.Need-record-at-requires Inv-loop μ-loop
+record-at-requires c κs = search needs
+
+key-of-requires : tie.Need-key-of-requires Inv-loop μ-loop
+key-of-requires c κs = search needs
+
+new-key-requires : tie.Need-new-key-requires Inv-loop μ-loop
+new-key-requires c κs = search needs
+
+returns : tie.Need-returns Inv-loop μ-loop
+unfolding namesOk
+returns c = sym (every-fails _ _ _ (c .before .before .before .before .before .loop-test .taken) (broke (judged (c .before)) (c .if1 .taken)))
+
+mul-keys : tie.Need-mul-keys Inv-loop μ-loop
+mul-keys c = search needs
+
+array-write-keys : tie.Need-array-write-keys Inv-loop μ-loop
+array-write-keys c = search needs
+
+add-i : tie.Need-add-i Inv-loop μ-loop
+add-i c = search needs
+
+loop-less : tie.Need-loop-less Inv-loop μ-loop
+loop-less c = search needs
+
+loop-again : tie.Need-loop-again Inv-loop μ-loop
+loop-again c =
+    let l = c .before .before .before .before .before .before .loop in
+    (search needs, keys-more (table-of (c .before)) (l .keys) (l .i) _ (below (c .before)) (l .inv .1) (keyed (c .before)), every-more _ _ (held (judged (c .before)) (c .if1 .left)) (l .inv .2))
+
+returns-2 : tie.Need-returns-2 Inv-loop μ-loop
+unfolding namesOk
+returns-2 c = sym (every-done _ _ _ (c .before .loop .inv .0) (c .loop-test .left) (c .before .loop .inv .2))
+
+pub names-ok-spec : {M : Type 1} → statement M
+names-ok-spec =
+    tie.close
+    (tie.spec
+    Inv-loop
+    μ-loop
+    loop-holds
+    record-at-requires
+    key-of-requires
+    new-key-requires
+    returns
+    mul-keys
+    array-write-keys
+    add-i
+    loop-less
+    loop-again
+    returns-2)

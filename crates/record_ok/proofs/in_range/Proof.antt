@@ -1,0 +1,54 @@
+-- `record_ok::in_range` meets its contract. Assumes nothing.
+use borrow.Author.Tests.{le-leb, lt-leb}
+use mathlib.Core.Path.{refl}
+use Rattle.ranges.proofs.InTurn.{Passed, none-passed, passes, fails, decides, held, broke}
+use Rattle.record_ok.specs.OneRecord.{rangeTests, inRange}
+use borrow.Author.Needs.{needs}
+use Rattle.record_ok.proofs.in_range.Statement.{statement}
+use Rattle.record_ok.proofs.in_range.Tie as tie
+
+past1 : (c : tie.Else1) → Passed 1 (rangeTests (c .before .before .args .s) (c .before .before .args .r))
+past1 c = passes 0 _ (none-passed _) (held (c .before .tid-ok .ensures) (c .if1 .left))
+
+past2 : (c : tie.Else2) → Passed 2 (rangeTests (c .before .before .before .before .before .args .s) (c .before .before .before .before .before .args .r))
+past2 c = passes 1 _ (past1 (c .before .before .before)) (le-leb _ _ (c .if2 .left))
+
+past3 : (c : tie.Else3) → Passed 3 (rangeTests (c .before .before .before .before .before .before .before .before .args .s) (c .before .before .before .before .before .before .before .before .args .r))
+past3 c = passes 2 _ (past2 (c .before .before .before)) (le-leb _ _ (c .if3 .left))
+
+past4 : (c : tie.Else4) → Passed 4 (rangeTests (c .before .before .before .before .before .before .before .before .before .before .args .s) (c .before .before .before .before .before .before .before .before .before .before .args .r))
+past4 c = passes 3 _ (past3 (c .before .before)) (le-leb _ _ (c .if4 .left))
+
+past5 : (c : tie.Else5) → Passed 5 (rangeTests (c .before .before .before .before .before .before .before .before .before .before .before .before .args .s) (c .before .before .before .before .before .before .before .before .before .before .before .before .args .r))
+past5 c = passes 4 _ (past4 (c .before .before)) (le-leb _ _ (c .if5 .left))
+
+tid-ok-requires : tie.Need-tid-ok-requires
+tid-ok-requires c κs = search needs
+
+returns : tie.Need-returns
+unfolding inRange
+returns c = fails 0 (rangeTests (c .before .before .args .s) (c .before .before .args .r)) (none-passed _) (broke (c .before .tid-ok .ensures) (c .if1 .taken))
+
+returns-2 : tie.Need-returns-2
+unfolding inRange
+returns-2 c = fails 1 _ (past1 (c .before .before .before)) (lt-leb _ _ (c .if2 .taken))
+
+returns-3 : tie.Need-returns-3
+unfolding inRange
+returns-3 c = fails 2 _ (past2 (c .before .before .before)) (lt-leb _ _ (c .if3 .taken))
+
+returns-4 : tie.Need-returns-4
+unfolding inRange
+returns-4 c = fails 3 _ (past3 (c .before .before)) (lt-leb _ _ (c .if4 .taken))
+
+returns-5 : tie.Need-returns-5
+unfolding inRange
+returns-5 c = fails 4 _ (past4 (c .before .before)) (lt-leb _ _ (c .if5 .taken))
+
+returns-6 : tie.Need-returns-6
+unfolding inRange
+returns-6 c = decides 5 _ _ (past5 (c .before)) refl refl
+
+pub in-range-spec : {M : Type 1} → statement M
+in-range-spec =
+    tie.close (tie.spec tid-ok-requires returns returns-2 returns-3 returns-4 returns-5 returns-6)

@@ -1,0 +1,73 @@
+#!/usr/bin/env python3
+"""Writes what the damage program must print: crates/damage/stdout.
+
+An independent reading of document 01's "well formed" over the layout of docs/TABLE.md; nothing here is taken from the definitions or the code.
+usage: tests/damage.py [--check]
+"""
+import pathlib
+import sys
+
+HEADER, RECORD, COUNT = 624, 160, 2
+# where the fields of docs/TABLE.md start, RCR_MAX with AEC_MAX, A with W, R with R, RCR with AEC and flags with the exit length taken together
+FIELDS = [0, 8, 10, 12, 20, 92, 112] + [HEADER + RECORD * i + at for i in range(COUNT) for at in (0, 1, 2, 4, 6, 8, 16, 20, 32)] + [HEADER + RECORD * COUNT]
+
+
+def number(octets):
+    return int.from_bytes(octets, "little")
+
+
+def header_ok(t):
+    intervals = [number(t[at:at + 4]) for at in range(12, 92, 4)]
+    caches = [number(t[at:at + 2]) for at in range(112, HEADER, 2)]
+    return (number(t[0:8]) <= 10 ** 12 and number(t[8:10]) <= 32767 and t[10] <= 8 and t[11] <= 8
+            and all(1 <= x <= 86400000 for x in intervals) and not any(t[92:112]) and all(c <= 32768 for c in caches))
+
+
+def record_ok(r, rcr_max, aec_max):
+    if r[0] == 0:
+        return not any(r)
+    return (r[0] <= 11 and number(r[2:4]) <= 32767 and r[4] <= rcr_max and r[5] <= aec_max and r[6] <= 15 and r[7] <= 128
+            and number(r[8:16]) <= 10 ** 12 + 86400000 and number(r[16:20]) <= 1024 and not any(r[20:32]))
+
+
+def name(r):
+    return (0 if r[0] <= 4 else 1, r[1], number(r[2:4]))
+
+
+def well_formed(t):
+    records = [t[HEADER + RECORD * i:HEADER + RECORD * (i + 1)] for i in range(COUNT)]
+    live = [name(r) for r in records if r[0]]
+    return header_ok(t[:HEADER]) and all(record_ok(r, t[10], t[11]) for r in records) and len(set(live)) == len(live)
+
+
+def fresh():
+    t = bytearray(HEADER + RECORD * COUNT)
+    t[8:10] = (7).to_bytes(2, "little")
+    t[10], t[11] = 4, 5
+    for k, value in enumerate([1000, 2000] + [3000] * 9 + [4000] * 9):
+        t[12 + 4 * k:16 + 4 * k] = value.to_bytes(4, "little")
+    return t
+
+
+def damaged(t):
+    counts = []
+    for at in range(len(t)):
+        was, refused = t[at], 0
+        for value in range(256):
+            t[at] = value
+            refused += not well_formed(t)
+        t[at] = was
+        counts.append(refused)
+    return ["octets %d to %d: %d changes refused" % (a, b, sum(counts[a:b])) for a, b in zip(FIELDS, FIELDS[1:])]
+
+
+table = fresh()
+text = ["a fresh table of two records"] + damaged(table)
+table[HEADER], table[HEADER + RECORD], table[HEADER + RECORD + 1] = 2, 2, 1
+text += ["the same with both records live"] + damaged(table)
+text = "\n".join(text) + "\n"
+path = pathlib.Path(__file__).resolve().parent.parent / "crates" / "damage" / "stdout"
+if "--check" in sys.argv[1:]:
+    sys.exit(0 if path.read_text() == text else "damage: stdout differs from document 01 as read here")
+path.write_text(text)
+print("%d lines" % text.count("\n"))
