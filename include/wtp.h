@@ -18,6 +18,7 @@ extern "C" {
 /* Results. */
 #define WTP_OK 0
 #define WTP_WRONG_SIZE 1    /* a lent buffer has the wrong size */
+#define WTP_WRONG_SETTING 10 /* a setting or the first TID is out of range */
 #define WTP_WRONG_LENGTH 11 /* a length outside 1 to 1,500, a datagram that can't be separated, no PDU to join */
 #define WTP_D1 101          /* the fixed header is cut short; in writing, a value too wide for its place */
 #define WTP_D2 102          /* the type is 0 or over 7 */
@@ -28,6 +29,7 @@ extern "C" {
 #define WTP_D7 107          /* bytes are left after an Ack, Abort or Nack */
 
 /* Sizes, in elements. */
+#define WTP_SETTINGS 32 /* words of settings */
 #define WTP_FIELDS 88  /* words of a PDU */
 #define WTP_ANSWER 32  /* words of an answer */
 #define WTP_PART 3     /* words of a part */
@@ -39,6 +41,16 @@ enum {
     WTP_ABORT_TYPE, WTP_ABORT_REASON, WTP_PACKET, WTP_NACK_COUNT, WTP_NACK_START, WTP_ITEMS, WTP_USER_START, WTP_USER_LENGTH,
     WTP_ITEM = 24 /* item k has the words WTP_ITEM + 4k: identity, 1 for the long form or 0, start and length of its data */
 };
+
+/* Words of settings: RCR_MAX, AEC_MAX, A, W, nine R of class 1 from word 4 on, nine R of class 2 from word 13 on, then zeros. */
+enum { WTP_RCR_MAX = 0, WTP_AEC_MAX, WTP_A, WTP_W, WTP_R_CLASS_1, WTP_R_CLASS_2 = 13 };
+
+/* The bytes of a table for 1 to 48 records, else 0. */
+uint64_t wtp_table_bytes(uint64_t records);
+
+/* Makes a table fresh, whatever it held: no live record, nothing cached, clock 0, these settings, and `first_tid` for the first request.
+ * 1: not the size of a table for 1 to 48 records; 10: not 32 words, or one of them or `first_tid` out of range. */
+uint64_t wtp_fresh(uint8_t *table, size_t table_len, const uint64_t *settings, size_t settings_len, uint64_t first_tid);
 
 /* Reads the PDU in `pdu` into the first 88 words of `fields`. Starts count from the PDU's first octet.
  * 1: fewer than 88 words; 11: length outside 1 to 1,500; then D2, D1, D5, D6, D3 or D4, D7. */

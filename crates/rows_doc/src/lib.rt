@@ -1,0 +1,1 @@
+// The rows of document 01, "Events", once more as sparse lists, and their agreement with crate rows: no code.

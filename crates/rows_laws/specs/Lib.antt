@@ -1,0 +1,3 @@
+pub mod Shown
+pub mod Range
+pub mod Transaction
