@@ -32,6 +32,7 @@ use Rattle.columns.specs.declared.ExitInfo.the-variants as ExitInfo
 use Rattle.columns.specs.declared.Act.{Act}
 use Rattle.acts.specs.Acts.{actOf, openingAct}
 use Rattle.tids.specs.Tids.{intervalOf}
+use Rattle.ranges.specs.Ranges.{timeBound, intervalBound, deadlineBound, tidBound, exitBound, cellSize, peers}
 use Rattle.turns.specs.Turns.{upOf, rcrAfter, aecAfter, exitLenAfter, lenAfter, deadlineAfter, newRecord, movedTo, recordAfter, turnOf, rowTurn, openingTurn}
 use Rattle.turns.specs.declared.Given.{Given}
 use Rattle.rows_laws.specs.Shown.{actAt}
@@ -90,32 +91,32 @@ aec-within Count.RcrUp n max rcr ok h = h
 aec-within Count.AecZero n max rcr ok h = omega arith
 aec-within Count.AecUp n max rcr ok h = up-within (n .0) max ok
 
-exit-within : (x : ExitInfo) (was given : ℕ) → was ≤ 128 → given ≤ 128 → exitLenAfter x was given ≤ 128
+exit-within : (x : ExitInfo) (was given : ℕ) → was ≤ exitBound → given ≤ exitBound → exitLenAfter x was given ≤ exitBound
 exit-within ExitInfo.Same was given h k = h
 exit-within ExitInfo.Given was given h k = k
 exit-within ExitInfo.Empty was given h k = omega arith
 
-len-within : (cell : Bool) (was given : ℕ) → was ≤ 1024 → given ≤ 1024 → lenAfter cell was given ≤ 1024
+len-within : (cell : Bool) (was given : ℕ) → was ≤ cellSize → given ≤ cellSize → lenAfter cell was given ≤ cellSize
 len-within true was given h k = k
 len-within false was given h k = h
 
 module _ (g : Given) (s : Settings) (rows : List (List ℕ)) (within : Within g s rows) where
-  interval-within : (class : ℕ) (n : Rcr) → intervalOf rows class n ≤ 86400000
+  interval-within : (class : ℕ) (n : Rcr) → intervalOf rows class n ≤ intervalBound
   unfolding intervalOf
   interval-within class n = go (eqb class 1)
     where
-      go : (c : Bool) → getD (getD rows (pick c 0 1) []) (n .0 % 9) 0 ≤ 86400000
+      go : (c : Bool) → getD (getD rows (pick c 0 1) []) (n .0 % 9) 0 ≤ intervalBound
       go true = within .intervals 0 (n .0 % 9) (omega arith) (omega arith)
       go false = within .intervals 1 (n .0 % 9) (omega arith) (omega arith)
 
-  deadline-within : (t : Timer) (was r : ℕ) → was ≤ 1000086400000 → r ≤ 86400000 → deadlineAfter t was (g .time) s r ≤ 1000086400000
+  deadline-within : (t : Timer) (was r : ℕ) → was ≤ deadlineBound → r ≤ intervalBound → deadlineAfter t was (g .time) s r ≤ deadlineBound
   deadline-within Timer.Runs was r h k = h
   deadline-within Timer.Stop was r h k = omega arith
   deadline-within Timer.A was r h k = omega (arith, within .time, within .a)
   deadline-within Timer.W was r h k = omega (arith, within .time, within .w)
   deadline-within Timer.R was r h k = omega (arith, within .time)
 
-  pub new-in-range : (peer tid : ℕ) (userAck : Bool) → peer ≤ 255 → tid ≤ 32767 → InRange s (newRecord peer tid userAck)
+  pub new-in-range : (peer tid : ℕ) (userAck : Bool) → peer < peers → tid ≤ tidBound → InRange s (newRecord peer tid userAck)
   unfolding newRecord
   new-in-range peer tid userAck p t = record { peer = p; tid = t; rcr = omega arith; aec = omega arith; exitLen = omega arith; len = omega arith; deadline = omega arith }
 

@@ -3,24 +3,25 @@ use Prim.Native.Nat.{ℕ, _≤_, _<_}
 use mathlib.Core.List.{List, []}
 use lib.ListN.{getD}
 use Rattle.record.specs.declared.Record.{Record}
+use Rattle.ranges.specs.Ranges.{timeBound, intervalBound, deadlineBound, tidBound, exitBound, cellSize, peers}
 use Rattle.table.specs.declared.Settings.{Settings}
 use Rattle.turns.specs.declared.Given.{Given}
 
 -- 01: "RCR and AEC to their maxima, deadlines to the time bound plus 86,400,000"
 pub record InRange (s : Settings) (r : Record) : Type 0 where
-  pub peer : r .peer ≤ 255
-  pub tid : r .tid ≤ 32767
+  pub peer : r .peer < peers
+  pub tid : r .tid ≤ tidBound
   pub rcr : r .rcr .0 ≤ s .«rcr_max»
   pub aec : r .aec .0 ≤ s .«aec_max»
-  pub exitLen : r .«exit_len» ≤ 128
-  pub len : r .len ≤ 1024
-  pub deadline : r .deadline ≤ 1000086400000
+  pub exitLen : r .«exit_len» ≤ exitBound
+  pub len : r .len ≤ cellSize
+  pub deadline : r .deadline ≤ deadlineBound
 
 -- 01: "Times are milliseconds, 0 to 1,000,000,000,000", "The intervals A, W and R are 1 to 86,400,000", "user data to send 0 to 1,024 bytes; exit information 0 to 128"
 pub record Within (g : Given) (s : Settings) (rows : List (List ℕ)) : Type 0 where
-  pub time : g .time ≤ 1000000000000
-  pub len : g .len ≤ 1024
-  pub exitLen : g .«exit_len» ≤ 128
-  pub a : s .a ≤ 86400000
-  pub w : s .w ≤ 86400000
-  pub intervals : (i n : ℕ) → i < 2 → n < 9 → getD (getD rows i []) n 0 ≤ 86400000
+  pub time : g .time ≤ timeBound
+  pub len : g .len ≤ cellSize
+  pub exitLen : g .«exit_len» ≤ exitBound
+  pub a : s .a ≤ intervalBound
+  pub w : s .w ≤ intervalBound
+  pub intervals : (i n : ℕ) → i < 2 → n < 9 → getD (getD rows i []) n 0 ≤ intervalBound

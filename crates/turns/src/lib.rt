@@ -1,6 +1,7 @@
 // A turn: the right-hand side of a row applied to a record.
 ghost use mathlib.Core.Path.{_≡_};
 ghost use Prim.Native.Nat.{_≤_};
+ghost use Rattle.ranges.specs.Ranges.{timeBound};
 ghost use Rattle.turns.specs.Turns.{upOf, rcrAfter, aecAfter, holdOnAfter, tidokSentAfter, holdOnSentAfter, exitLenAfter, storesExit, lenAfter, noTimer, deadlineAfter, newRecord, movedTo, recordAfter, turnOf, rowTurn, openingTurn};
 use columns::Act;
 use columns::Cache;
@@ -138,7 +139,7 @@ fn no_timer() -> u64
 }
 
 fn deadline_after(t: Timer, was: u64, time: u64, s: Settings, r: u32) -> u64
-    requires { ⌜ time ≤ 1000000000000 ⌝ }
+    requires { ⌜ time ≤ timeBound ⌝ }
     ensures { λ v. ⌜ v ≡ deadlineAfter t was time s r ⌝ }
 {
     match t {
@@ -172,7 +173,7 @@ pub fn new_record(peer: u8, tid: u16, user_ack: bool) -> Record
 
 // The record in its next state.
 fn moved_to(state: State, a: Act, r: Record, g: Given, s: Settings, rows: [[u32; 9]; 2]) -> Record
-    requires { ⌜ g .time ≤ 1000000000000 ⌝ }
+    requires { ⌜ g .time ≤ timeBound ⌝ }
     ensures { λ v. ⌜ v ≡ movedTo state a r g s rows ⌝ }
 {
     let count = a.count;
@@ -208,7 +209,7 @@ fn moved_to(state: State, a: Act, r: Record, g: Given, s: Settings, rows: [[u32;
 }
 
 fn record_after(a: Act, r: Record, g: Given, s: Settings, rows: [[u32; 9]; 2]) -> Record
-    requires { ⌜ g .time ≤ 1000000000000 ⌝ }
+    requires { ⌜ g .time ≤ timeBound ⌝ }
     ensures { λ v. ⌜ v ≡ recordAfter (a .next) a r g s rows ⌝ }
 {
     let next = a.next;
@@ -223,7 +224,7 @@ fn record_after(a: Act, r: Record, g: Given, s: Settings, rows: [[u32; 9]; 2]) -
 }
 
 fn turn_of(a: Act, r: Record, g: Given, s: Settings, rows: [[u32; 9]; 2]) -> Turn
-    requires { ⌜ g .time ≤ 1000000000000 ⌝ }
+    requires { ⌜ g .time ≤ timeBound ⌝ }
     ensures { λ t. ⌜ t ≡ turnOf a r g s rows ⌝ }
 {
     let after = record_after(a, r, g, s, rows);
@@ -246,7 +247,7 @@ fn turn_of(a: Act, r: Record, g: Given, s: Settings, rows: [[u32; 9]; 2]) -> Tur
 
 // The turn of a live record under a row.
 pub fn row_turn(row: Row, r: Record, g: Given, s: Settings, rows: [[u32; 9]; 2]) -> Turn
-    requires { ⌜ g .time ≤ 1000000000000 ⌝ }
+    requires { ⌜ g .time ≤ timeBound ⌝ }
     ensures { λ t. ⌜ t ≡ rowTurn row r g s rows ⌝ }
 {
     let a = acts::act_of(row, r.tidok_sent, g.kind, g.reason);
@@ -255,7 +256,7 @@ pub fn row_turn(row: Row, r: Record, g: Given, s: Settings, rows: [[u32; 9]; 2])
 
 // The turn of a new record.
 pub fn opening_turn(opening: Opening, r: Record, g: Given, s: Settings, rows: [[u32; 9]; 2]) -> Turn
-    requires { ⌜ g .time ≤ 1000000000000 ⌝ }
+    requires { ⌜ g .time ≤ timeBound ⌝ }
     ensures { λ t. ⌜ t ≡ openingTurn opening r g s rows ⌝ }
 {
     let a = acts::opening_act(opening);
