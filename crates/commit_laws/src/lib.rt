@@ -1,0 +1,1 @@
+// An accepted call keeps the table well formed, and changes no other record: laws only.
