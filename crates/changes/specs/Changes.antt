@@ -1,0 +1,36 @@
+-- The changes of the table that a turn stands for (01, "Numbers given back", "TIDs").
+use Prim.Native.Nat.{ℕ, _+_}
+use lib.Dec.{eqb}
+use Rattle.seq.specs.Seq.{pick}
+use Rattle.record.specs.Record.{stateNumber}
+use Rattle.record.specs.declared.Record.{Record}
+use Rattle.columns.specs.declared.Cache.{Cache}
+use Rattle.columns.specs.declared.Cache.the-variants as Cache
+use Rattle.turns.specs.declared.Turn.{Turn}
+use Rattle.commit.specs.declared.Change.{Change}
+use Rattle.commit.specs.declared.Change.the-variants as Change
+use Rattle.commit.specs.declared.Header.{Header}
+use Rattle.commit.specs.declared.Header.the-variants as Header
+use Rattle.commit.specs.declared.Changes.{Changes}
+
+-- 01: "A freed record is zeroed": one that ended has the state free
+unfoldable pub changeOf : Record → Change
+changeOf after = pick (eqb (stateNumber (after .state)) 0) Change.Clear (Change.Put after)
+
+-- 01: "A valid TID becomes LastTID. A verified one does so only if none is cached"
+unfoldable pub cachedAfter : Cache → ℕ → ℕ → Header
+cachedAfter Cache.Same cached tid = Header.Kept
+cachedAfter Cache.Set cached tid = Header.Set (tid + 1)
+cachedAfter Cache.SetIfNone cached tid = pick (eqb cached 0) (Header.Set (tid + 1)) Header.Kept
+
+-- a turn leaves GenTID as it is: only a request counts it
+unfoldable pub turnChanges : Turn → ℕ → ℕ → ℕ → ℕ → ℕ → Changes
+turnChanges turn place peer tid cached time = record {
+  place = place;
+  change = changeOf (turn .after);
+  exit = turn .exit;
+  «gen_tid» = Header.Kept;
+  peer = peer;
+  cached = cachedAfter (turn .cache) cached tid;
+  time = time;
+}

@@ -1,0 +1,60 @@
+// From a turn of a record to the changes of the table that it stands for.
+ghost use mathlib.Core.Path.{_≡_};
+ghost use Prim.Native.Nat.{_<_};
+ghost use Rattle.changes.specs.Changes.{changeOf, cachedAfter, turnChanges};
+use columns::Cache;
+use commit::Change;
+use commit::Changes;
+use commit::Header;
+use record::Record;
+use turns::Turn;
+
+// A record that ended is freed.
+fn change_of(after: Record) -> Change
+    ensures { λ r. ⌜ r ≡ changeOf after ⌝ }
+{
+    let state = after.state;
+    if record::state_number(state) == 0 {
+        Change::Clear
+    } else {
+        Change::Put(after)
+    }
+}
+
+// What becomes of the cached TID of the peer: 0 is none, else LastTID and 1.
+fn cached_after(cache: Cache, cached: u16, tid: u16) -> Header
+    requires { ⌜ tid < 32768 ⌝ }
+    ensures { λ r. ⌜ r ≡ cachedAfter cache cached tid ⌝ }
+{
+    match cache {
+        Cache::Same => Header::Kept,
+        Cache::Set => Header::Set(tid + 1),
+        Cache::SetIfNone => {
+            if cached == 0 {
+                Header::Set(tid + 1)
+            } else {
+                Header::Kept
+            }
+        }
+    }
+}
+
+// The changes of a turn of the record at a place, whose peer has this TID cached.
+pub fn turn_changes(turn: Turn, place: usize, peer: u8, tid: u16, cached: u16, time: u64) -> Changes
+    requires { ⌜ tid < 32768 ⌝ }
+    ensures { λ r. ⌜ r ≡ turnChanges turn place peer tid cached time ⌝ }
+{
+    let after = turn.after;
+    let cache = turn.cache;
+    let change = change_of(after);
+    let header = cached_after(cache, cached, tid);
+    Changes {
+        place: place,
+        change: change,
+        exit: turn.exit,
+        gen_tid: Header::Kept,
+        peer: seq::size(peer),
+        cached: header,
+        time: time,
+    }
+}
