@@ -1,0 +1,4 @@
+pub mod Laws
+pub mod First
+pub mod Names
+pub mod ReadTid

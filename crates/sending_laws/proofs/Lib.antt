@@ -1,0 +1,3 @@
+pub mod SentReads
+pub mod Cases
+pub mod BySource

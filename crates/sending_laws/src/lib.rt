@@ -1,0 +1,1 @@
+// What is said of the PDUs that we send: laws only.

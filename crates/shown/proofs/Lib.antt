@@ -1,0 +1,3 @@
+pub mod OwnKind
+pub mod Back
+pub mod Data

@@ -1,0 +1,4 @@
+pub mod Shows
+pub mod Words
+pub mod Parts
+pub mod Kinds
