@@ -1,3 +1,2 @@
 pub mod SentReads
-pub mod Cases
 pub mod BySource

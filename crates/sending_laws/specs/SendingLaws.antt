@@ -1,14 +1,10 @@
--- What is said of the PDUs that we send (01, demand 2, "Bytes on the air" and "Bench cases").
+-- What is said of the PDUs that we send (01, demand 2, "Bytes on the air").
 use Prim.Native.Nat.{ℕ, _+_, _≤_}
 use mathlib.Core.Path.{_≡_}
-use mathlib.Core.List.{List, [], _∷_}
-use mathlib.Core.Bool.{true, false}
+use mathlib.Core.List.{List}
 use lib.ListN.{length}
 use Rattle.reader.specs.Read.{pduOf}
-use Rattle.writer.specs.Write.{octetsOf}
 use Rattle.reads_back.specs.ReadsBack.{meaningOf}
-use Rattle.record.specs.declared.Role.{Role}
-use Rattle.record.specs.declared.Role.the-variants.{Initiator, Responder}
 use Rattle.columns.specs.declared.Send.{Send}
 use Rattle.columns.specs.declared.Send.the-variants.{Nothing, Invoke, Tidok, LastAck, HoldOn, Tidve, Result, Abort}
 use Rattle.sending.specs.declared.Sender.{Sender}
@@ -20,29 +16,6 @@ use Rattle.sending.specs.Octets.{octetsSent}
 -- what is sent, read again, is the PDU that was meant
 abbrev pub ReadsAsMeant : List ℕ → Send → Sender → Type 0
 ReadsAsMeant s send by = meaningOf (octetsSent s send by) (pduOf (octetsSent s send by)) ≡ meaningOf s (sentPdu send by)
-
--- TID 5, class 2, no message, and exit information of the first n octets of its source
-abbrev pub caseSender : Role → ℕ → Sender
-caseSender role n = record { role = role; tid = 5; class = 2; «user_ack» = false; start = 0; len = 0; «exit_start» = 0; «exit_len» = n }
-
--- octets that the writer makes of what is sent from a source s
-abbrev pub Written : List ℕ → Send → Sender → List ℕ → Type 0
-Written s send by octets = octetsOf s (sentPdu send by) ≡ octets
-
--- 01, "Bench cases": "class 2 Invoke, TID 5, no data: 0E 00 05 02", "its repeat 0F 00 05 02"
-abbrev pub invokeCase : Type 0
-invokeCase = Written [] (Invoke false) (caseSender Initiator 0) (0x0E ∷ 0x00 ∷ 0x05 ∷ 0x02 ∷ [])
-
-abbrev pub repeatCase : Type 0
-repeatCase = Written [] (Invoke true) (caseSender Initiator 0) (0x0F ∷ 0x00 ∷ 0x05 ∷ 0x02 ∷ [])
-
--- "Result to it: 16 80 05"
-abbrev pub resultCase : Type 0
-resultCase = Written [] (Result false) (caseSender Responder 0) (0x16 ∷ 0x80 ∷ 0x05 ∷ [])
-
--- "Last Ack with exit information AA BB: 98 00 05 0A AA BB"
-abbrev pub lastAckCase : Type 0
-lastAckCase = Written (0xAA ∷ 0xBB ∷ []) (LastAck false) (caseSender Initiator 2) (0x98 ∷ 0x00 ∷ 0x05 ∷ 0x0A ∷ 0xAA ∷ 0xBB ∷ [])
 
 -- a message of at most 1,024 octets, or exit information of at most 128, lies in the source that is named
 abbrev pub FitSource : Source → List ℕ → Sender → Type 0

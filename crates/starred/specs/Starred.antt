@@ -15,19 +15,26 @@ use Rattle.pdu.specs.declared.Pdu.{Pdu}
 use Rattle.pdu.specs.Pdu.{blankPdu}
 use Rattle.reader.specs.Read.{pduOf}
 use Rattle.writer.specs.Write.{octetsOf, faultOf}
+use Rattle.record.specs.declared.Role.{Role}
+use Rattle.record.specs.declared.Role.the-variants.{Initiator, Responder}
+use Rattle.columns.specs.declared.Send.{Send}
+use Rattle.columns.specs.declared.Send.the-variants as Send
+use Rattle.sending.specs.declared.Sender.{Sender}
+use Rattle.sending.specs.Sending.{sentPdu}
 use Rattle.tids.specs.Tids.{testOf}
 use Rattle.tids.specs.declared.Test.{Test}
 use Rattle.tids.specs.declared.Test.the-variants.{Valid, Verified}
 use Rattle.datagram.specs.Separate.{Split, refused, parts, partsOf}
 
 -- a case: octets read as a PDU; a PDU, whose parts lie in a source, written as octets; octets malformed as a PDU; a datagram separated;
--- the test of a TID where LastTID is cached
+-- the test of a TID where LastTID is cached; what the engine sends of a source
 pub data Row : Type 0 where
   reads : List ℕ → Pdu → Row
   writes : List ℕ → Pdu → List ℕ → Row
   malformed : List ℕ → Malformed → Row
   separates : List ℕ → Split → Row
   tests : ℕ → ℕ → Test → Row
+  sends : List ℕ → Send → Sender → List ℕ → Row
 
 -- what a case says
 unfoldable pub Says : Row → Type 0
@@ -36,6 +43,7 @@ Says (writes source p octets) = _≡_ {A = Verdict × List ℕ} (faultOf p, octe
 Says (malformed octets d) = pduOf octets ≡ blankPdu (Wrong d)
 Says (separates datagram split) = partsOf datagram ≡ split
 Says (tests last tid test) = testOf (last + 1) tid ≡ test
+Says (sends source send by octets) = octetsOf source (sentPdu send by) ≡ octets
 
 -- every case of a table holds
 infixr 5 _and_
@@ -87,6 +95,10 @@ lastAckPdu start = record {
 abbrev pub twoPdus : List ℕ
 twoPdus = 0x00 ∷ 0x03 ∷ 0x18 ∷ 0x80 ∷ 0x05 ∷ 0x04 ∷ 0x20 ∷ 0x80 ∷ 0x06 ∷ 0x08 ∷ []
 
+-- TID 5, class 2, no message, and exit information of the first n octets of its source
+abbrev pub sender : Role → ℕ → Sender
+sender role n = record { role = role; tid = 5; class = 2; «user_ack» = false; start = 0; len = 0; «exit_start» = 0; «exit_len» = n }
+
 -- the cases; the last Ack is written from its own octets and from its exit information alone
 abbrev pub table : List Row
 table =
@@ -108,4 +120,8 @@ table =
     ∷ tests 32767 0 Valid
     ∷ tests 0 16383 Valid
     ∷ tests 0 16384 Verified
+    ∷ sends [] (Send.Invoke false) (sender Initiator 0) invoke
+    ∷ sends [] (Send.Invoke true) (sender Initiator 0) repeat
+    ∷ sends [] (Send.Result false) (sender Responder 0) result
+    ∷ sends (0xAA ∷ 0xBB ∷ []) (Send.LastAck false) (sender Initiator 2) lastAck
     ∷ []
