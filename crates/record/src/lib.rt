@@ -2,7 +2,6 @@
 ghost use mathlib.Core.Path.{_≡_};
 ghost use Prim.Native.Nat.{_+_, _*_, _≤_, _<_};
 ghost use lib.ListN.{length};
-ghost use Rattle.seq.specs.Seq.{bit};
 ghost use Rattle.record.specs.Record.{roleOf, classOf, stateNumber, stateOf, flagsOf, decoded, octetsOf, sendTid, rcvTid};
 
 // 01, "Events": which end of the transaction a record is.
@@ -152,19 +151,13 @@ pub fn rcv_tid(role: Role, tid: u16) -> RcvTid
     }
 }
 
-fn bit_of(b: bool) -> u8
-    ensures { λ r. ⌜ (r ≡ bit b) × (r < 2) ⌝ }
-{
-    if b { 1 } else { 0 }
-}
-
 fn flags_of(r: Record) -> u8
     ensures { λ f. ⌜ f ≡ flagsOf r ⌝ }
 {
-    bit_of(r.user_ack)
-        + 2 * bit_of(r.hold_on)
-        + 4 * bit_of(r.tidok_sent)
-        + 8 * bit_of(r.hold_on_sent)
+    seq::bit(r.user_ack)
+        + 2 * seq::bit(r.hold_on)
+        + 4 * seq::bit(r.tidok_sent)
+        + 8 * seq::bit(r.hold_on_sent)
 }
 
 // The record of 20 octets.

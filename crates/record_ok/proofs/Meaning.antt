@@ -16,18 +16,18 @@ use Rattle.table.specs.Table.{recordSize, base, spareBase, recordAt}
 use Rattle.table.specs.declared.Settings.{Settings}
 use Rattle.ranges.proofs.Tests.{Each, each, all}
 use Rattle.ranges.proofs.Zeros.{zeros-to, zeros-from}
-use Rattle.record_ok.specs.OneRecord.{Live, InRange, LiveOk, FreeOk, RecordOk, rangeTests, inRange, liveTests, liveOk, recordOk, spareSize}
+use Rattle.record_ok.specs.OneRecord.{Live, Bounded, InRange, LiveOk, FreeOk, RecordOk, rangeTests, inRange, liveTests, liveOk, recordOk, spareSize}
 use Rattle.record_ok.proofs.States.{octet-known, octet-live}
 
-range-to : (s : Settings) (r : Record) → Live r → inRange s r ≡ true → InRange s r
+bounds-to : (s : Settings) (r : Record) → inRange s r ≡ true → Bounded s r
 unfolding inRange
-range-to s r l h =
+bounds-to s r h =
     let e : Each (rangeTests s r) = each (rangeTests s r) h in
     omega (arith, leb-true)
 
-range-from : (s : Settings) (r : Record) → InRange s r → inRange s r ≡ true
+bounds-from : (s : Settings) (r : Record) → Bounded s r → inRange s r ≡ true
 unfolding inRange
-range-from s r h =
+bounds-from s r h =
     let e : Each (rangeTests s r) = omega (arith, le-leb) in
     all (rangeTests s r) e
 
@@ -37,7 +37,7 @@ live-to t s i l h =
     let e : Each (liveTests t s i) = each (liveTests t s i) h in
     let n : stateNumber (recordAt t i .state) ≡ getD t (base i) 0 = octet-known t i (leb-true _ _ (e .0)) in
     record {
-      range = range-to s (recordAt t i) (omega arith) (e .1 .1 .0);
+      range = record { live = omega arith; bounds = bounds-to s (recordAt t i) (e .1 .1 .0) };
       flags = leb-true _ _ (e .1 .0);
       spare = zeros-to t (spareBase i) spareSize (e .1 .1 .1);
     }
@@ -47,7 +47,7 @@ unfolding liveOk
 live-from t s i h =
     all (liveTests t s i) (
       le-leb _ _ (octet-live t i (h .range .live) .1),
-      (le-leb _ _ (h .flags), (range-from s (recordAt t i) (h .range), zeros-from t (spareBase i) spareSize (h .spare))),
+      (le-leb _ _ (h .flags), (bounds-from s (recordAt t i) (h .range .bounds), zeros-from t (spareBase i) spareSize (h .spare))),
     )
 
 -- the first octet of a free record

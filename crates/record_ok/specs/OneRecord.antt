@@ -1,5 +1,5 @@
 -- One record of a well-formed table (01, "What the reader carries"): as a sentence, and as a test.
-use Prim.Native.Nat.{ℕ, _+_, _≤_}
+use Prim.Native.Nat.{ℕ, _+_, _≤_, _<_}
 use mathlib.Core.List.{List, [], _∷_}
 use mathlib.Core.Bool.{Bool}
 use mathlib.Core.Logic.{_⊎_}
@@ -10,21 +10,26 @@ use Rattle.record.specs.Record.{stateNumber}
 use Rattle.record.specs.declared.Record.{Record}
 use Rattle.table.specs.Table.{recordSize, base, spareBase, recordAt}
 use Rattle.table.specs.declared.Settings.{Settings}
-use Rattle.ranges.specs.Ranges.{tidBound, exitBound, deadlineBound, cellSize, Zeros, zeros, allOf}
+use Rattle.ranges.specs.Ranges.{peers, tidBound, exitBound, deadlineBound, cellSize, Zeros, zeros, allOf}
 
 -- a record is live when its state isn't free
 abbrev pub Live : Record → Type 0
 Live r = 1 ≤ stateNumber (r .state)
 
--- 01: "all fields are in range (a state for its role and class, RCR and AEC to their maxima, deadlines to the time bound plus 86,400,000)"
-pub record InRange (s : Settings) (r : Record) : Type 0 where
-  pub live : Live r
+-- 01: "RCR and AEC to their maxima, deadlines to the time bound plus 86,400,000", and the bounds of TIDs, exit information and messages
+pub record Bounded (s : Settings) (r : Record) : Type 0 where
   pub tid : r .tid ≤ tidBound
   pub rcr : r .rcr .0 ≤ s .«rcr_max»
   pub aec : r .aec .0 ≤ s .«aec_max»
   pub exit : r .«exit_len» ≤ exitBound
   pub deadline : r .deadline ≤ deadlineBound
   pub message : r .len ≤ cellSize
+  pub peer : r .peer < peers
+
+-- 01: "all fields are in range (a state for its role and class, ..)": a live record within its bounds
+pub record InRange (s : Settings) (r : Record) : Type 0 where
+  pub live : Live r
+  pub bounds : Bounded s r
 
 -- the octet of a record's four flags, and the highest it can be
 abbrev pub flagsAt : ℕ → ℕ
@@ -59,6 +64,7 @@ rangeTests s r =
     ∷ leb (r .«exit_len») exitBound
     ∷ leb (r .deadline) deadlineBound
     ∷ leb (r .len) cellSize
+    ∷ leb (r .peer) 255
     ∷ []
 
 unfoldable pub inRange : Settings → Record → Bool

@@ -26,7 +26,10 @@ fn in_range(s: Settings, r: Record) -> bool
     if r.deadline > 1000086400000 {
         return false;
     }
-    r.len <= 1024
+    if r.len > 1024 {
+        return false;
+    }
+    r.peer <= 255
 }
 
 fn spare_ok(t: &[u8], i: usize) -> bool

@@ -1,4 +1,4 @@
--- A turn of a record in range under the row for its own conditions gives a record in range, and so does an opening. Assumes nothing.
+-- A turn of a record within its bounds under the row for its own conditions gives one within its bounds, and so does an opening. Assumes nothing.
 use Prim.Native.Nat.{ℕ, _+_, _≤_, _<_, _%_}
 use native.Mathlib.Omega.{arith}
 use mathlib.Core.Path.{_≡_, refl}
@@ -32,15 +32,16 @@ use Rattle.columns.specs.declared.ExitInfo.the-variants as ExitInfo
 use Rattle.columns.specs.declared.Act.{Act}
 use Rattle.acts.specs.Acts.{actOf, openingAct}
 use Rattle.tids.specs.Tids.{intervalOf}
-use Rattle.ranges.specs.Ranges.{timeBound, intervalBound, deadlineBound, tidBound, exitBound, cellSize, peers}
+use Rattle.ranges.specs.Ranges.{peers, timeBound, intervalBound, deadlineBound, tidBound, exitBound, cellSize}
 use Rattle.turns.specs.Turns.{upOf, rcrAfter, aecAfter, exitLenAfter, lenAfter, deadlineAfter, newRecord, movedTo, recordAfter, turnOf, rowTurn, openingTurn}
 use Rattle.turns.specs.declared.Given.{Given}
 use Rattle.rows_laws.specs.Shown.{actAt}
-use Rattle.rows_laws.specs.Range.{InRange, Within}
+use Rattle.record_ok.specs.OneRecord.{Bounded}
+use Rattle.rows_laws.specs.Range.{Within}
 use Rattle.rows_laws.proofs.Rows.{same-self}
 
 -- a counter goes up only where it is below its maximum
-abbrev allowed : Count → Bool → Bool → Bool
+abbrev pub allowed : Count → Bool → Bool → Bool
 allowed Count.Same rcr aec = true
 allowed Count.RcrZero rcr aec = true
 allowed Count.RcrUp rcr aec = rcr
@@ -57,7 +58,7 @@ module _ (kind reason : ℕ) (tidok : Bool) where
   unfolding asked allFlags every stateOf rowOf actOf actWith taken acked stored shown
   all-asked s e c = at-state (λ s e c. allFlags 2 (asked s e c)) refl s e c
 
-  counts-allowed : (e : Event) (s : Settings) (r : Record)
+  pub counts-allowed : (e : Event) (s : Settings) (r : Record)
       → allowed (actAt (r .state) e (conditionsOf s r) tidok kind reason .count) (ltb (r .rcr .0) (s .«rcr_max»)) (ltb (r .aec .0) (s .«aec_max»)) ≡ true
   unfolding asked conditionsOf
   counts-allowed e s r =
@@ -77,7 +78,7 @@ pub up-exact : (n max : ℕ) → n < max → max ≤ 8 → upOf n ≡ n + 1
 unfolding upOf
 up-exact n max less small = let below : n < 8 = omega arith in rw (lt-ltb n 8 below)
 
-rcr-within : (k : Count) (n : Rcr) (max : ℕ) (aec : Bool) → allowed k (ltb (n .0) max) aec ≡ true → n .0 ≤ max → rcrAfter k n .0 ≤ max
+pub rcr-within : (k : Count) (n : Rcr) (max : ℕ) (aec : Bool) → allowed k (ltb (n .0) max) aec ≡ true → n .0 ≤ max → rcrAfter k n .0 ≤ max
 rcr-within Count.Same n max aec ok h = h
 rcr-within Count.RcrZero n max aec ok h = omega arith
 rcr-within Count.RcrUp n max aec ok h = up-within (n .0) max ok
@@ -116,38 +117,38 @@ module _ (g : Given) (s : Settings) (rows : List (List ℕ)) (within : Within g 
   deadline-within Timer.W was r h k = omega (arith, within .time, within .w)
   deadline-within Timer.R was r h k = omega (arith, within .time)
 
-  pub new-in-range : (peer tid : ℕ) (userAck : Bool) → peer < peers → tid ≤ tidBound → InRange s (newRecord peer tid userAck)
+  pub new-in-range : (peer tid : ℕ) (userAck : Bool) → peer < peers → tid ≤ tidBound → Bounded s (newRecord peer tid userAck)
   unfolding newRecord
-  new-in-range peer tid userAck p t = record { peer = p; tid = t; rcr = omega arith; aec = omega arith; exitLen = omega arith; len = omega arith; deadline = omega arith }
+  new-in-range peer tid userAck p t = record { tid = t; rcr = omega arith; aec = omega arith; exit = omega arith; deadline = omega arith; message = omega arith; peer = p }
 
-  module _ (r : Record) (a : Act) (ok : InRange s r) (counts : allowed (a .count) (ltb (r .rcr .0) (s .«rcr_max»)) (ltb (r .aec .0) (s .«aec_max»)) ≡ true) where
-    moved-in-range : (state : State) → InRange s (movedTo state a r g s rows)
+  module _ (r : Record) (a : Act) (ok : Bounded s r) (counts : allowed (a .count) (ltb (r .rcr .0) (s .«rcr_max»)) (ltb (r .aec .0) (s .«aec_max»)) ≡ true) where
+    moved-in-range : (state : State) → Bounded s (movedTo state a r g s rows)
     unfolding movedTo
     moved-in-range state = record {
-      peer = ok .peer;
       tid = ok .tid;
       rcr = rcr-within (a .count) (r .rcr) (s .«rcr_max») (ltb (r .aec .0) (s .«aec_max»)) counts (ok .rcr);
       aec = aec-within (a .count) (r .aec) (s .«aec_max») (ltb (r .rcr .0) (s .«rcr_max»)) counts (ok .aec);
-      exitLen = exit-within (a .exit) (r .«exit_len») (g .«exit_len») (ok .exitLen) (within .exitLen);
-      len = len-within (a .cell) (r .len) (g .len) (ok .len) (within .len);
+      exit = exit-within (a .exit) (r .«exit_len») (g .«exit_len») (ok .exit) (within .exitLen);
       deadline = deadline-within (a .timer) (r .deadline) (intervalOf rows (classOf state) (rcrAfter (a .count) (r .rcr))) (ok .deadline) (interval-within (classOf state) (rcrAfter (a .count) (r .rcr)));
+      message = len-within (a .cell) (r .len) (g .len) (ok .message) (within .len);
+      peer = ok .peer;
     }
 
-    after-in-range : (n : Next) → InRange s (recordAfter n a r g s rows)
+    after-in-range : (n : Next) → Bounded s (recordAfter n a r g s rows)
     unfolding recordAfter
     after-in-range Stays = moved-in-range (r .state)
     after-in-range Ends = new-in-range 0 0 false (omega arith) (omega arith)
     after-in-range (Goes state) = moved-in-range state
 
   -- a live record under the row for its own conditions
-  pub turn-in-range : (e : Event) (r : Record) → InRange s r → InRange s (rowTurn (rowOf (r .state) e (conditionsOf s r)) r g s rows .after)
+  pub turn-in-range : (e : Event) (r : Record) → Bounded s r → Bounded s (rowTurn (rowOf (r .state) e (conditionsOf s r)) r g s rows .after)
   unfolding rowTurn turnOf
   turn-in-range e r ok =
       let a = actAt (r .state) e (conditionsOf s r) (r .«tidok_sent») (g .kind) (g .reason) in
       after-in-range r a ok (counts-allowed (g .kind) (g .reason) (r .«tidok_sent») e s r) (a .next)
 
   -- a new record under an opening
-  pub opening-in-range : (o : Opening) (r : Record) → InRange s r → InRange s (openingTurn o r g s rows .after)
+  pub opening-in-range : (o : Opening) (r : Record) → Bounded s r → Bounded s (openingTurn o r g s rows .after)
   unfolding openingTurn turnOf every openingAct actWith stored shown
   opening-in-range o r ok =
       let counts : Opening → Bool = λ x. allowed (openingAct x .count) (ltb (r .rcr .0) (s .«rcr_max»)) (ltb (r .aec .0) (s .«aec_max»)) in

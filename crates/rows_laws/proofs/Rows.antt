@@ -3,8 +3,8 @@ use Prim.Native.Nat.{ℕ}
 use native.Mathlib.Omega.{arith}
 use mathlib.Core.Path.{_≡_, refl, sym}
 use mathlib.Core.Bool.{Bool, true, false, Bool·beq, _&&_, _||_}
-use borrow.Author.Tests.{eqb-true}
-use lib.Dec.{eqb}
+use borrow.Author.Tests.{leb-true, eqb-true}
+use lib.Dec.{leb, eqb}
 use Rattle.seq.specs.Seq.{every}
 use Rattle.record.specs.Record.{stateOf, roleOf, classOf, roleNumber}
 use Rattle.record.specs.declared.Role.{Role}
@@ -17,8 +17,10 @@ use Rattle.events.specs.declared.Opening.{Opening}
 use Rattle.events.proofs.Finite.{allRows, at-state, at-row, at-opening}
 use Rattle.rows.specs.Rows.{rowOf}
 use Rattle.columns.specs.Columns.{actWith, taken, acked, stored, shown}
+use Rattle.columns.specs.declared.Send.{Send}
+use Rattle.columns.specs.declared.Send.the-variants as Send
 use Rattle.acts.specs.Acts.{actOf, openingAct}
-use Rattle.rows_laws.specs.Shown.{actAt, showsAbort, showsResult, takesResult, stateAfter, countsRcr, sentAfterFirst}
+use Rattle.rows_laws.specs.Shown.{actAt, showsAbort, showsResult, takesResult, stateAfter, countsRcr, sentAfterFirst, SendProper}
 
 pub same-self : (b : Bool) → Bool·beq b b ≡ true
 same-self true = refl
@@ -93,3 +95,38 @@ counts-resends row tidok kind reason = same-bool (counts row tidok) (sends row t
     computed : (t : Bool) → allRows (λ x. Bool·beq (counts x t) (sends x t)) ≡ true
     computed true = refl
     computed false = refl
+
+-- whether what is sent is proper, as a test
+abbrev properTest : Send → Bool
+properTest Send.Nothing = true
+properTest (Send.Invoke again) = true
+properTest (Send.Tidok again) = true
+properTest (Send.LastAck again) = true
+properTest (Send.HoldOn again) = true
+properTest (Send.Tidve again) = true
+properTest (Send.Result again) = true
+properTest (Send.Abort kind reason) = leb kind 1
+
+proper-tested : (send : Send) → properTest send ≡ true → SendProper send
+proper-tested Send.Nothing h = tt
+proper-tested (Send.Invoke again) h = tt
+proper-tested (Send.Tidok again) h = tt
+proper-tested (Send.LastAck again) h = tt
+proper-tested (Send.HoldOn again) h = tt
+proper-tested (Send.Tidve again) h = tt
+proper-tested (Send.Result again) h = tt
+proper-tested (Send.Abort kind reason) h = omega (arith, leb-true kind 1 h)
+
+-- an abort that a row sends is the provider's or the user's
+pub proper : (row : Row) (tidok : Bool) (kind reason : ℕ) → SendProper (actOf row tidok kind reason .send)
+unfolding every actOf actWith taken acked stored shown
+proper row tidok kind reason = proper-tested (actOf row tidok kind reason .send) (at-row (λ x. properTest (actOf x tidok kind reason .send)) (computed tidok) row)
+  where
+    computed : (t : Bool) → allRows (λ x. properTest (actOf x t kind reason .send)) ≡ true
+    computed true = refl
+    computed false = refl
+
+-- and so is one that an opening sends
+pub proper-opening : (o : Opening) → SendProper (openingAct o .send)
+unfolding every openingAct actWith stored shown
+proper-opening o = proper-tested (openingAct o .send) (at-opening (λ x. properTest (openingAct x .send)) refl o)

@@ -1,21 +1,10 @@
--- The ranges of document 01, "What the reader carries", for a record and for what a turn of it is given.
+-- The ranges of document 01, "What the reader carries", for what a turn of a record is given; a record's own are `Bounded`.
 use Prim.Native.Nat.{ℕ, _≤_, _<_}
 use mathlib.Core.List.{List, []}
 use lib.ListN.{getD}
-use Rattle.record.specs.declared.Record.{Record}
-use Rattle.ranges.specs.Ranges.{timeBound, intervalBound, deadlineBound, tidBound, exitBound, cellSize, peers}
+use Rattle.ranges.specs.Ranges.{timeBound, intervalBound, exitBound, cellSize}
 use Rattle.table.specs.declared.Settings.{Settings}
 use Rattle.turns.specs.declared.Given.{Given}
-
--- 01: "RCR and AEC to their maxima, deadlines to the time bound plus 86,400,000"
-pub record InRange (s : Settings) (r : Record) : Type 0 where
-  pub peer : r .peer < peers
-  pub tid : r .tid ≤ tidBound
-  pub rcr : r .rcr .0 ≤ s .«rcr_max»
-  pub aec : r .aec .0 ≤ s .«aec_max»
-  pub exitLen : r .«exit_len» ≤ exitBound
-  pub len : r .len ≤ cellSize
-  pub deadline : r .deadline ≤ deadlineBound
 
 -- 01: "Times are milliseconds, 0 to 1,000,000,000,000", "The intervals A, W and R are 1 to 86,400,000", "user data to send 0 to 1,024 bytes; exit information 0 to 128"
 pub record Within (g : Given) (s : Settings) (rows : List (List ℕ)) : Type 0 where

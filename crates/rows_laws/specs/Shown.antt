@@ -1,5 +1,5 @@
 -- What the laws of all rows speak of: what an act shows, where its record goes, and what it counts.
-use Prim.Native.Nat.{ℕ}
+use Prim.Native.Nat.{ℕ, _≤_}
 use mathlib.Core.Bool.{Bool, true, false, _&&_, _||_}
 use lib.Dec.{eqb}
 use Rattle.record.specs.Record.{stateNumber}
@@ -76,3 +76,14 @@ sentAfterFirst (Send.HoldOn again) = false
 sentAfterFirst (Send.Tidve again) = false
 sentAfterFirst (Send.Result again) = again
 sentAfterFirst (Send.Abort kind reason) = false
+
+-- 01, the table of types: an abort that is sent is "0 provider, 1 user"
+abbrev pub SendProper : Send → Type 0
+SendProper Send.Nothing = Unit
+SendProper (Send.Invoke again) = Unit
+SendProper (Send.Tidok again) = Unit
+SendProper (Send.LastAck again) = Unit
+SendProper (Send.HoldOn again) = Unit
+SendProper (Send.Tidve again) = Unit
+SendProper (Send.Result again) = Unit
+SendProper (Send.Abort kind reason) = kind ≤ 1

@@ -17,6 +17,7 @@ use Rattle.record.specs.declared.Role.{Role}
 use Rattle.record.specs.declared.Role.the-variants.{Initiator, Responder}
 use Rattle.record.specs.Record.{sendTid}
 use Rattle.writer.specs.Write.{longest, FitItem, FitItems, FitKind, Fit, kindFault, restFault, faultOf}
+use Rattle.ranges.specs.Ranges.{exitBound}
 use Rattle.columns.specs.declared.Send.{Send}
 use Rattle.columns.specs.declared.Send.the-variants.{Nothing, Invoke, Tidok, LastAck, HoldOn, Tidve, Result, Abort}
 use Rattle.sending.specs.declared.Sender.{Sender}
@@ -36,7 +37,7 @@ plain-fits : (s : List ℕ) (kind : Kind) (by : Sender) (start len : ℕ) → Fi
 unfolding plainPdu FitItems
 plain-fits s kind by start len k h = record { kind-fits = k; tid-fits = tid-fits by; list-full = refl; items-fit = tt; user-fits = h }
 
-short-enough : (long : Bool) (len : ℕ) → ltb 3 len ≡ long → len ≤ 128 → len ≤ longest long
+short-enough : (long : Bool) (len : ℕ) → ltb 3 len ≡ long → len ≤ exitBound → len ≤ longest long
 short-enough true len e h = omega arith
 short-enough false len e h = ltb-false 3 len e
 

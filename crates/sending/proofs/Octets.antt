@@ -10,6 +10,7 @@ use Rattle.seq.specs.Seq.{pick, bit, part}
 use Rattle.seq.proofs.Laws.{length-part}
 use Rattle.record.specs.Record.{sendTid}
 use Rattle.writer.specs.Write.{typeNumber, flagsOf, extraOf, headerOf, formOf, itemOctets, itemsOctets, octetsOf}
+use Rattle.ranges.specs.Ranges.{exitBound, outputLeast}
 use Rattle.columns.specs.declared.Send.{Send}
 use Rattle.columns.specs.declared.Send.the-variants.{Nothing, Invoke, Tidok, LastAck, HoldOn, Tidve, Result, Abort}
 use Rattle.sending.specs.declared.Sender.{Sender}
@@ -62,17 +63,17 @@ octets-are s (Result true) by f = refl
 octets-are s (Result false) by f = refl
 octets-are s (Abort kind reason) by f = refl
 
-exit-length : (long : Bool) (len : ℕ) (body : List ℕ) → length body ≡ len → len ≤ 128
+exit-length : (long : Bool) (len : ℕ) (body : List ℕ) → length body ≡ len → len ≤ exitBound
     → length (pick long (0x0C ∷ len ∷ body) ((0x08 + len) ∷ body)) ≤ 130
 exit-length true len body e h = omega arith
 exit-length false len body e h = omega arith
 
 -- what is picked of two lists is no longer than either may be
-picked-length : (b : Bool) (x y : List ℕ) → length x ≤ 1028 → length y ≤ 1028 → length (pick b x y) ≤ 1028
+picked-length : (b : Bool) (x y : List ℕ) → length x ≤ outputLeast → length y ≤ outputLeast → length (pick b x y) ≤ outputLeast
 picked-length true x y d e = d
 picked-length false x y d e = e
 
-pub sent-length : (s : List ℕ) (send : Send) (by : Sender) → FitSend s send by → length (octetsSent s send by) ≤ 1028
+pub sent-length : (s : List ℕ) (send : Send) (by : Sender) → FitSend s send by → length (octetsSent s send by) ≤ outputLeast
 unfolding octetsSent FitSend
 sent-length s Nothing by f = absurd f
 sent-length s (Invoke again) by f = omega (arith, length-part s (by .start) (by .len) (f .1), f .2)

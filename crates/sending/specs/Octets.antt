@@ -8,6 +8,7 @@ use Rattle.seq.specs.Seq.{pick, bit, part}
 use Rattle.numbers.specs.declared.Verdict.the-variants.{Sound}
 use Rattle.pdu.specs.declared.Pdu.{Pdu}
 use Rattle.writer.specs.Write.{Fit, faultOf, octetsOf}
+use Rattle.ranges.specs.Ranges.{exitBound, cellSize, outputLeast}
 use Rattle.columns.specs.declared.Send.{Send}
 use Rattle.columns.specs.declared.Send.the-variants.{Nothing, Invoke, Tidok, LastAck, HoldOn, Tidve, Result, Abort}
 use Rattle.sending.specs.declared.Sender.{Sender}
@@ -45,12 +46,12 @@ octetsSent s (Abort kind reason) by = withTid by (0x20 + kind) (reason ∷ [])
 -- there is a PDU to send, its class or abort type is one of 01's, and its parts are within their limits and lie in s
 unfoldable pub FitSend : List ℕ → Send → Sender → Type 0
 FitSend s Nothing by = ⊥
-FitSend s (Invoke again) by = (by .class ≤ 2) × (by .start + by .len ≤ length s) × (by .len ≤ 1024)
+FitSend s (Invoke again) by = (by .class ≤ 2) × (by .start + by .len ≤ length s) × (by .len ≤ cellSize)
 FitSend s (Tidok again) by = Unit
-FitSend s (LastAck again) by = (by .«exit_start» + by .«exit_len» ≤ length s) × (by .«exit_len» ≤ 128)
+FitSend s (LastAck again) by = (by .«exit_start» + by .«exit_len» ≤ length s) × (by .«exit_len» ≤ exitBound)
 FitSend s (HoldOn again) by = Unit
 FitSend s (Tidve again) by = Unit
-FitSend s (Result again) by = (by .start + by .len ≤ length s) × (by .len ≤ 1024)
+FitSend s (Result again) by = (by .start + by .len ≤ length s) × (by .len ≤ cellSize)
 FitSend s (Abort kind reason) by = kind ≤ 1
 
 -- the writer writes it, within the 1,028 octets of output that a call asks for
@@ -58,4 +59,4 @@ pub record Sendable (s : List ℕ) (p : Pdu) : Type 0 where
   pub fits : Fit s p
   pub items-listed : p .count ≤ 16
   pub no-fault : faultOf p ≡ Sound
-  pub room-enough : length (octetsOf s p) ≤ 1028
+  pub room-enough : length (octetsOf s p) ≤ outputLeast

@@ -7,9 +7,9 @@ use Rattle.columns.specs.declared.Send.the-variants.{Nothing, Invoke, Tidok, La
 use Rattle.sending.specs.declared.Sender.{Sender}
 use Rattle.sending.specs.Sending.{sourceOf}
 use Rattle.sending.specs.Octets.{FitSend}
-use Rattle.sending_laws.specs.SendingLaws.{FitSource, Proper}
+use Rattle.sending_laws.specs.SendingLaws.{FitSource, Proper, ClassFits}
 
-pub by-source : (s : List ℕ) (send : Send) (by : Sender) → Proper send → by .class ≤ 2 → FitSource (sourceOf send) s by → FitSend s send by
+pub by-source : (s : List ℕ) (send : Send) (by : Sender) → Proper send → ClassFits send (by .class) → FitSource (sourceOf send) s by → FitSend s send by
 unfolding sourceOf FitSend
 by-source s Nothing by p c f = absurd p
 by-source s (Invoke true) by p c f = (c, f .0, f .1)

@@ -5,6 +5,7 @@ use mathlib.Core.List.{List}
 use lib.ListN.{length}
 use Rattle.reader.specs.Read.{pduOf}
 use Rattle.reads_back.specs.ReadsBack.{meaningOf}
+use Rattle.ranges.specs.Ranges.{exitBound, cellSize}
 use Rattle.columns.specs.declared.Send.{Send}
 use Rattle.columns.specs.declared.Send.the-variants.{Nothing, Invoke, Tidok, LastAck, HoldOn, Tidve, Result, Abort}
 use Rattle.sending.specs.declared.Sender.{Sender}
@@ -20,9 +21,9 @@ ReadsAsMeant s send by = meaningOf (octetsSent s send by) (pduOf (octetsSent s s
 -- a message of at most 1,024 octets, or exit information of at most 128, lies in the source that is named
 abbrev pub FitSource : Source → List ℕ → Sender → Type 0
 FitSource Source.Nothing s by = Unit
-FitSource Source.Given s by = (by .start + by .len ≤ length s) × (by .len ≤ 1024)
-FitSource Source.Cell s by = (by .start + by .len ≤ length s) × (by .len ≤ 1024)
-FitSource Source.Table s by = (by .«exit_start» + by .«exit_len» ≤ length s) × (by .«exit_len» ≤ 128)
+FitSource Source.Given s by = (by .start + by .len ≤ length s) × (by .len ≤ cellSize)
+FitSource Source.Cell s by = (by .start + by .len ≤ length s) × (by .len ≤ cellSize)
+FitSource Source.Table s by = (by .«exit_start» + by .«exit_len» ≤ length s) × (by .«exit_len» ≤ exitBound)
 
 -- there is a PDU to send; an abort's type is "0 provider, 1 user"
 abbrev pub Proper : Send → Type 0
@@ -34,3 +35,14 @@ Proper (HoldOn again) = Unit
 Proper (Tidve again) = Unit
 Proper (Result again) = Unit
 Proper (Abort kind reason) = kind ≤ 1
+
+-- an Invoke's class is one of 0, 1 and 2
+abbrev pub ClassFits : Send → ℕ → Type 0
+ClassFits Nothing class = Unit
+ClassFits (Invoke again) class = class ≤ 2
+ClassFits (Tidok again) class = Unit
+ClassFits (LastAck again) class = Unit
+ClassFits (HoldOn again) class = Unit
+ClassFits (Tidve again) class = Unit
+ClassFits (Result again) class = Unit
+ClassFits (Abort kind reason) class = Unit

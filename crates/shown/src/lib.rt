@@ -1,12 +1,12 @@
 // What the user is shown, and its data as a part of one of two lent slices.
 ghost use mathlib.Core.Path.{_≡_};
-ghost use Rattle.seq.specs.Seq.{bit};
 ghost use Rattle.record.specs.Record.{roleNumber};
 ghost use Rattle.shown.specs.Shows.{noData, invokePlace, confirmPlace, shownOf, placeOf};
 ghost use Rattle.shown.specs.Words.{frontWords, ownWords, sourceNumber, shownWords};
 ghost use Rattle.shown.specs.Parts.{fittingPart, dataOf};
 use columns::Indication;
 use record::Role;
+use seq::flag;
 
 pub enum Source {
     Datagram,
@@ -139,13 +139,7 @@ pub fn place_of(s: Shown) -> Place
     }
 }
 
-fn flag(b: bool) -> u64
-    ensures { λ r. ⌜ r ≡ bit b ⌝ }
-{
-    if b { 1 } else { 0 }
-}
-
-fn role_number(role: Role) -> u64
+pub fn role_number(role: Role) -> u64
     ensures { λ r. ⌜ r ≡ roleNumber role ⌝ }
 {
     match role {

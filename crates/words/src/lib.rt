@@ -2,7 +2,7 @@
 ghost use mathlib.Core.Path.{_≡_};
 ghost use Prim.Native.Nat.{_%_, _≤_, _<_};
 ghost use lib.ListN.{length};
-ghost use Rattle.seq.specs.Seq.{bit, put};
+ghost use Rattle.seq.specs.Seq.{put};
 ghost use Rattle.words.specs.Words.{frontWords, invokeWords, otherWords, itemWords, itemsWords, wordsOf};
 ghost use Rattle.words.specs.Said.{invokeSaid, kindSaid, itemSaid, itemsSaid, pduSaid};
 use items::Item;
@@ -10,12 +10,7 @@ use numbers::Malformed;
 use numbers::Verdict;
 use pdu::Kind;
 use pdu::Pdu;
-
-fn flag(b: bool) -> u64
-    ensures { λ r. ⌜ r ≡ bit b ⌝ }
-{
-    if b { 1 } else { 0 }
-}
+use seq::flag;
 
 // Words 0 to 4: type, GTR, TTR, RID, TID.
 fn front_words(kind: Kind, tid: u64) -> [u64; 5]

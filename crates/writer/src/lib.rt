@@ -10,16 +10,10 @@ use items::Item;
 use pdu::Kind;
 use pdu::Pdu;
 
-fn bit_of(b: bool) -> u8
-    ensures { λ r. ⌜ (r ≡ bit b) × (r ≤ 1) ⌝ }
-{
-    if b { 1 } else { 0 }
-}
-
 fn three_of(a: bool, b: bool, c: bool) -> u8
     ensures { λ r. ⌜ (r ≡ three a b c) × (r < 8) ⌝ }
 {
-    bit_of(a) * 4 + bit_of(b) * 2 + bit_of(c)
+    seq::bit(a) * 4 + seq::bit(b) * 2 + seq::bit(c)
 }
 
 // Type and flags of a kind: the first octet without CON.
@@ -34,7 +28,7 @@ fn first_octet(kind: Kind) -> u8
         Kind::Abort { abort_type, .. } => 32 + abort_type,
         Kind::SegInvoke { gtr, ttr, rid, .. } => 40 + three_of(gtr, ttr, rid),
         Kind::SegResult { gtr, ttr, rid, .. } => 48 + three_of(gtr, ttr, rid),
-        Kind::Nack { rid, .. } => 56 + bit_of(rid),
+        Kind::Nack { rid, .. } => 56 + seq::bit(rid),
         Kind::Wrong(_) => 0,
         Kind::Refused(_) => 0,
     }
@@ -44,7 +38,7 @@ fn invoke_octet(version: u8, tidnew: bool, up: bool, class: u8) -> u8
     requires { ⌜ (version < 4) × (class < 4) ⌝ }
     ensures { λ r. ⌜ r ≡ version * 64 + bit tidnew * 32 + bit up * 16 + class ⌝ }
 {
-    version * 64 + bit_of(tidnew) * 32 + bit_of(up) * 16 + class
+    version * 64 + seq::bit(tidnew) * 32 + seq::bit(up) * 16 + class
 }
 
 // Stores what stands after the TID, from place 3 of the output; the place after it.
@@ -95,7 +89,7 @@ fn put_header(out: &mut [u8], src: &[u8], con: bool, kind: Kind, tid: u16) -> us
     requires { ⌜ length (headerOf (now src) con kind tid) ≤ length (now out) ⌝ }
     ensures { λ r. ⌜ (r ≡ length (headerOf (now (src .entry)) con kind tid)) × (now (out .exit) ≡ put (now (out .entry)) 0 (headerOf (now (src .entry)) con kind tid)) ⌝ }
 {
-    let first = bit_of(con) * 128 + first_octet(kind);
+    let first = seq::bit(con) * 128 + first_octet(kind);
     let head = [first, (tid / 256) as u8, (tid % 256) as u8];
     seq::store(&mut *out, 0, &head);
     put_extra(out, src, kind)
@@ -109,7 +103,7 @@ fn put_item(out: &mut [u8], at: usize, src: &[u8], it: Item, con: bool) -> usize
 {
     let start = it.start;
     let len = it.len;
-    let top = bit_of(con) * 128 + it.identity * 8;
+    let top = seq::bit(con) * 128 + it.identity * 8;
     if it.long {
         out[at] = top + 4;
         out[at + 1] = len as u8;

@@ -22,6 +22,9 @@ past4 c = passes 3 _ (past3 (c .before .before)) (le-leb _ _ (c .if4 .left))
 past5 : (c : tie.Else5) → Passed 5 (rangeTests (c .before .before .before .before .before .before .before .before .before .before .before .before .args .s) (c .before .before .before .before .before .before .before .before .before .before .before .before .args .r))
 past5 c = passes 4 _ (past4 (c .before .before)) (le-leb _ _ (c .if5 .left))
 
+past6 : (c : tie.Else6) → Passed 6 (rangeTests (c .before .before .before .before .before .before .before .before .before .before .before .before .before .before .args .s) (c .before .before .before .before .before .before .before .before .before .before .before .before .before .before .args .r))
+past6 c = passes 5 _ (past5 (c .before .before)) (le-leb _ _ (c .if6 .left))
+
 tid-ok-requires : tie.Need-tid-ok-requires
 tid-ok-requires c κs = search needs
 
@@ -47,8 +50,12 @@ returns-5 c = fails 4 _ (past4 (c .before .before)) (lt-leb _ _ (c .if5 .taken))
 
 returns-6 : tie.Need-returns-6
 unfolding inRange
-returns-6 c = decides 5 _ _ (past5 (c .before)) refl refl
+returns-6 c = fails 5 _ (past5 (c .before .before)) (lt-leb _ _ (c .if6 .taken))
+
+returns-7 : tie.Need-returns-7
+unfolding inRange
+returns-7 c = decides 6 _ _ (past6 (c .before)) refl refl
 
 pub in-range-spec : {M : Type 1} → statement M
 in-range-spec =
-    tie.close (tie.spec tid-ok-requires returns returns-2 returns-3 returns-4 returns-5 returns-6)
+    tie.close (tie.spec tid-ok-requires returns returns-2 returns-3 returns-4 returns-5 returns-6 returns-7)

@@ -5,7 +5,7 @@ use Rattle.shown.proofs.own_words.Statement.{statement}
 use Rattle.shown.proofs.own_words.Tie as tie
 use Rattle.shown.proofs.own_words.Reads as reads
 use Rattle.shown.proofs.own_words.Lts as lts
-use Rattle.shown.proofs.flag.Reads as flag-reads
+use Rattle.seq.proofs.flag.Reads as flag-reads
 
 -- src/lib.rt:200:27
 enum-told : tie.Need-enum-told

@@ -5,7 +5,7 @@ use Rattle.words.proofs.front_words.Statement.{statement}
 use Rattle.words.proofs.front_words.Tie as tie
 use Rattle.words.proofs.front_words.Reads as reads
 use Rattle.words.proofs.front_words.Lts as lts
-use Rattle.words.proofs.flag.Reads as flag-reads
+use Rattle.seq.proofs.flag.Reads as flag-reads
 
 -- src/lib.rt:22:24
 enum-known-kind : tie.Need-enum-known-kind

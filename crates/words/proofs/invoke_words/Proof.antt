@@ -5,7 +5,7 @@ use Rattle.words.proofs.invoke_words.Statement.{statement}
 use Rattle.words.proofs.invoke_words.Tie as tie
 use Rattle.words.proofs.invoke_words.Reads as reads
 use Rattle.words.proofs.invoke_words.Lts as lts
-use Rattle.words.proofs.flag.Reads as flag-reads
+use Rattle.seq.proofs.flag.Reads as flag-reads
 
 -- src/lib.rt:40:13
 enum-known-kind : tie.Need-enum-known-kind

@@ -5,7 +5,7 @@ use Rattle.words.proofs.item_words.Statement.{statement}
 use Rattle.words.proofs.item_words.Tie as tie
 use Rattle.words.proofs.item_words.Reads as reads
 use Rattle.words.proofs.item_words.Lts as lts
-use Rattle.words.proofs.flag.Reads as flag-reads
+use Rattle.seq.proofs.flag.Reads as flag-reads
 
 -- src/lib.rt:77:9
 flag-requires : tie.Need-flag-requires

@@ -5,7 +5,7 @@ use Rattle.words.proofs.other_words.Statement.{statement}
 use Rattle.words.proofs.other_words.Tie as tie
 use Rattle.words.proofs.other_words.Reads as reads
 use Rattle.words.proofs.other_words.Lts as lts
-use Rattle.words.proofs.flag.Reads as flag-reads
+use Rattle.seq.proofs.flag.Reads as flag-reads
 
 -- src/lib.rt:62:32
 enum-told : tie.Need-enum-told

@@ -6,7 +6,7 @@ use Rattle.writer.proofs.first_octet.Statement.{statement}
 use Rattle.writer.proofs.first_octet.Tie as tie
 use Rattle.writer.proofs.first_octet.Reads as reads
 use Rattle.writer.proofs.first_octet.Lts as lts
-use Rattle.writer.proofs.bit_of.Reads as bit-of-reads
+use Rattle.seq.proofs.bit.Reads as bit-reads
 use Rattle.writer.proofs.three_of.Reads as three-of-reads
 
 -- src/lib.rt:31:24
@@ -83,8 +83,8 @@ enum-known-kind-7 : tie.Need-enum-known-kind-7
 enum-known-kind-7 c = search needs
 
 -- src/lib.rt:37:40
-bit-of-requires : tie.Need-bit-of-requires
-bit-of-requires c κs = search needs
+bit-requires : tie.Need-bit-requires
+bit-requires c κs = search needs
 
 -- src/lib.rt:37:35
 add-result-7 : tie.Need-add-result-7
@@ -131,7 +131,7 @@ returns-6 c = rw (c .before .before .kind6 .given .1) (omega (arith, c .three-of
 -- src/lib.rt:26:1
 returns-7 : tie.Need-returns-7
 unfolding typeNumber flagsOf
-returns-7 c = rw (c .before .before .kind7 .given .1) (omega (arith, c .bit-of .ensures))
+returns-7 c = rw (c .before .before .kind7 .given .1) (omega (arith, c .bit .ensures))
 
 -- src/lib.rt:26:1
 returns-8 : tie.Need-returns-8
@@ -165,7 +165,7 @@ first-octet-spec =
     three-of-requires-5
     add-result-6
     enum-known-kind-7
-    bit-of-requires
+    bit-requires
     add-result-7
     enum-told
     enum-told-2

@@ -12,13 +12,13 @@ use Rattle.writer.proofs.put_header.Tie as tie
 use Rattle.writer.proofs.put_header.Reads as reads
 use Rattle.writer.proofs.put_header.Lts as lts
 use Rattle.seq.proofs.store.Reads as store-reads
-use Rattle.writer.proofs.bit_of.Reads as bit-of-reads
+use Rattle.seq.proofs.bit.Reads as bit-reads
 use Rattle.writer.proofs.first_octet.Reads as first-octet-reads
 use Rattle.writer.proofs.put_extra.Reads as put-extra-reads
 
 -- src/lib.rt:98:17
-bit-of-requires : tie.Need-bit-of-requires
-bit-of-requires c κs = search needs
+bit-requires : tie.Need-bit-requires
+bit-requires c κs = search needs
 
 -- src/lib.rt:98:17
 mul-first : tie.Need-mul-first
@@ -67,7 +67,7 @@ returns c =
     let b = c .before .before .before .before .before .before .before .before .before .before .before .before .before in
     let a = b .args in
     let first = c .before .before .before .before .before .before .before .before .before .first-octet .ensures .0 in
-    let top = c .before .before .before .before .before .before .before .before .before .before .bit-of .ensures .0 in (
+    let top = c .before .before .before .before .before .before .before .before .before .before .bit .ensures .0 in (
       c .before .before .put-extra .ensures .0 ∙ sym (header-length (now (a .src)) (a .con) (a .kind) (a .tid)),
       c .before .before .put-extra .ensures .1 ∙ rw (c .before .before .before .before .before .before .store .ensures) (header-stored (now (a .src)) (a .con) (a .kind) (a .tid) (now (a .out)) _ (rw (first, top) refl)),
     )
@@ -76,7 +76,7 @@ pub put-header-spec : {M : Type 1} → statement M
 put-header-spec =
     tie.close
     (tie.spec
-    bit-of-requires
+    bit-requires
     mul-first
     first-octet-requires
     add-first

@@ -14,7 +14,7 @@ use Rattle.writer.proofs.put_item.Tie as tie
 use Rattle.writer.proofs.put_item.Reads as reads
 use Rattle.writer.proofs.put_item.Lts as lts
 use Rattle.seq.proofs.copy.Reads as copy-reads
-use Rattle.writer.proofs.bit_of.Reads as bit-of-reads
+use Rattle.seq.proofs.bit.Reads as bit-reads
 
 -- what the form says of the length
 long-at : (c : tie.Then1) → (length (itemOctets (now (c .before .before .before .before .before .args .src)) (c .before .before .before .before .before .args .con) (c .before .before .before .before .before .args .it)) ≡ c .before .before .before .before .before .args .it .len + 2) × (c .before .before .before .before .before .args .it .len ≤ 255)
@@ -24,8 +24,8 @@ short-at : (c : tie.Else1) → (length (itemOctets (now (c .before .before .befo
 short-at c = let b = c .before .before .before .before .before in short-length (now (b .args .src)) (b .args .con) (b .args .it) (c .if1 .left) (b .pre .0)
 
 -- src/lib.rt:112:15
-bit-of-requires : tie.Need-bit-of-requires
-bit-of-requires c κs = search needs
+bit-requires : tie.Need-bit-requires
+bit-requires c κs = search needs
 
 -- src/lib.rt:112:15
 mul-top : tie.Need-mul-top
@@ -113,7 +113,7 @@ unfolding put
 returns c =
     let a = c .before .before .before .before .before .before .before .before .before .args in (
       omega (arith, long-at (c .before .before .before .before)),
-      rw (long-octets (now (a .src)) (a .con) (a .it) (c .before .before .before .before .if1 .taken), ← c .before .before .before .before .before .before .bit-of .ensures .0) (simp (add-one, add-two) at (c .before .before .copy .ensures)),
+      rw (long-octets (now (a .src)) (a .con) (a .it) (c .before .before .before .before .if1 .taken), ← c .before .before .before .before .before .before .bit .ensures .0) (simp (add-one, add-two) at (c .before .before .copy .ensures)),
     )
 
 -- src/lib.rt:105:1
@@ -126,14 +126,14 @@ unfolding put
 returns-2 c =
     let a = c .before .before .before .before .before .before .before .before .before .args in (
       omega (arith, short-at (c .before .before .before .before)),
-      rw (short-octets (now (a .src)) (a .con) (a .it) (c .before .before .before .before .if1 .left), ← c .before .before .before .before .before .before .bit-of .ensures .0) (simp add-one at (c .before .before .copy2 .ensures)),
+      rw (short-octets (now (a .src)) (a .con) (a .it) (c .before .before .before .before .if1 .left), ← c .before .before .before .before .before .before .bit .ensures .0) (simp add-one at (c .before .before .copy2 .ensures)),
     )
 
 pub put-item-spec : {M : Type 1} → statement M
 put-item-spec =
     tie.close
     (tie.spec
-    bit-of-requires
+    bit-requires
     mul-top
     mul-top-2
     add-top
