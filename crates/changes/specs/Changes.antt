@@ -13,9 +13,9 @@ use Rattle.commit.specs.declared.Header.{Header}
 use Rattle.commit.specs.declared.Header.the-variants as Header
 use Rattle.commit.specs.declared.Changes.{Changes}
 
--- 01: "A freed record is zeroed": one that ended has the state free
-unfoldable pub changeOf : Record → Change
-changeOf after = pick (eqb (stateNumber (after .state)) 0) Change.Clear (Change.Put after)
+-- a record that is live afterwards is put; what becomes of one that isn't, the second says
+unfoldable pub changeOf : Record → Change → Change
+changeOf after ended = pick (eqb (stateNumber (after .state)) 0) ended (Change.Put after)
 
 -- 01: "A valid TID becomes LastTID. A verified one does so only if none is cached"
 unfoldable pub cachedAfter : Cache → ℕ → ℕ → Header
@@ -23,11 +23,11 @@ cachedAfter Cache.Same cached tid = Header.Kept
 cachedAfter Cache.Set cached tid = Header.Set (tid + 1)
 cachedAfter Cache.SetIfNone cached tid = pick (eqb cached 0) (Header.Set (tid + 1)) Header.Kept
 
--- a turn leaves GenTID as it is: only a request counts it
+-- 01: "A freed record is zeroed"; a turn leaves GenTID as it is: only a request counts it
 unfoldable pub turnChanges : Turn → ℕ → ℕ → ℕ → ℕ → ℕ → Changes
 turnChanges turn place peer tid cached time = record {
   place = place;
-  change = changeOf (turn .after);
+  change = changeOf (turn .after) Change.Clear;
   exit = turn .exit;
   «gen_tid» = Header.Kept;
   peer = peer;

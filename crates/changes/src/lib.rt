@@ -9,20 +9,20 @@ use commit::Header;
 use record::Record;
 use turns::Turn;
 
-// A record that ended is freed.
-fn change_of(after: Record) -> Change
-    ensures { λ r. ⌜ r ≡ changeOf after ⌝ }
+// What becomes of the record: where it isn't live afterwards, what the caller says.
+pub fn change_of(after: Record, ended: Change) -> Change
+    ensures { λ r. ⌜ r ≡ changeOf after ended ⌝ }
 {
     let state = after.state;
     if record::state_number(state) == 0 {
-        Change::Clear
+        ended
     } else {
         Change::Put(after)
     }
 }
 
 // What becomes of the cached TID of the peer: 0 is none, else LastTID and 1.
-fn cached_after(cache: Cache, cached: u16, tid: u16) -> Header
+pub fn cached_after(cache: Cache, cached: u16, tid: u16) -> Header
     requires { ⌜ tid < 32768 ⌝ }
     ensures { λ r. ⌜ r ≡ cachedAfter cache cached tid ⌝ }
 {
@@ -46,7 +46,7 @@ pub fn turn_changes(turn: Turn, place: usize, peer: u8, tid: u16, cached: u16, t
 {
     let after = turn.after;
     let cache = turn.cache;
-    let change = change_of(after);
+    let change = change_of(after, Change::Clear);
     let header = cached_after(cache, cached, tid);
     Changes {
         place: place,

@@ -7,7 +7,6 @@ use mathlib.Core.Logic.{inl, inr}
 use mathlib.Core.Bool.{Bool, true, false}
 use lib.ListN.{length, replicate, length-replicate}
 use Rattle.seq.specs.Seq.{put}
-use Rattle.seq.proofs.Laws.{length-put}
 use Rattle.octets.specs.Octets.{enc}
 use Rattle.octets.proofs.Laws.{Apart, apart-rows, length-enc}
 use Rattle.record.specs.Record.{octetsOf}
@@ -24,11 +23,11 @@ use Rattle.commit.specs.declared.Header.{Header}
 use Rattle.commit.specs.declared.Header.the-variants.{Kept, Set}
 use Rattle.commit.specs.declared.Changes.{Changes}
 use Rattle.commit.specs.Commit.{recordChanged, exitStored, genTidChanged, cacheChanged, tableAfter}
+use Rattle.commit.proofs.Length.{length-clock, length-after}
 use Rattle.commit_laws.specs.Allowed.{Allowed, Framed}
 
 -- u is t but for the record at a place, the cached TID of a peer, GenTID and the clock
 record Same (place peer : ℕ) (t u : List ℕ) : Type 0 where
-  same-length : length u ≡ length t
   other-records : (j : ℕ) → (j ≡ place → ⊥) → recordAt u j ≡ recordAt t j
   settings : settingsOf u ≡ settingsOf t
   rows : rowsOf u ≡ rowsOf t
@@ -36,11 +35,10 @@ record Same (place peer : ℕ) (t u : List ℕ) : Type 0 where
 
 module _ (place peer : ℕ) where
   itself : (t : List ℕ) → Same place peer t t
-  itself t = record { same-length = refl; other-records = λ j d. refl; settings = refl; rows = refl; other-peers = λ p h d. refl }
+  itself t = record { other-records = λ j d. refl; settings = refl; rows = refl; other-peers = λ p h d. refl }
 
   then-same : (t u v : List ℕ) → Same place peer t u → Same place peer u v → Same place peer t v
   then-same t u v a b = record {
-    same-length = b .same-length ∙ a .same-length;
     other-records = λ j d. b .other-records j d ∙ a .other-records j d;
     settings = b .settings ∙ a .settings;
     rows = b .rows ∙ a .rows;
@@ -51,7 +49,6 @@ module _ (place peer : ℕ) where
   stored : (t : List ℕ) (b : ℕ) (w : List ℕ) → ((j : ℕ) → (j ≡ place → ⊥) → Apart (base j) 20 b (length w)) → Apart 10 82 b (length w)
       → ((p : ℕ) → p < peers → (p ≡ peer → ⊥) → Apart (112 + p * 2) 2 b (length w)) → Same place peer t (put t b w)
   stored t b w r s c = record {
-    same-length = length-put t b w;
     other-records = λ j d. record-apart t b w j (r j d);
     settings = settings-apart t b w s;
     rows = rows-apart t b w s;
@@ -115,10 +112,10 @@ commit-frames t c exit w ok =
     let s₄ : Same i p t t₄ = then-same i p t t₂ t₄ s₂ (then-same i p t₂ t₃ t₄ (gen-tid-same i p t₂ (c .«gen_tid»)) (cached-same i p t₃ (c .cached) (ok .peer))) in
     let s : Same i p t (putClock t₄ (c .time)) = then-same i p t t₄ (putClock t₄ (c .time)) s₄ (clock-other i p t₄ (c .time)) in
     record {
-      same-length = s .same-length;
+      same-length = length-after t c exit;
       other-records = s .other-records;
       settings = s .settings;
       rows = s .rows;
       other-peers = s .other-peers;
-      clock = clock-same t₄ (c .time) (omega (arith, s₄ .same-length, w .sized .whole)) (omega (arith, ok .time));
+      clock = clock-same t₄ (c .time) (omega (arith, length-after t c exit, length-clock t₄ (c .time), w .sized .whole)) (omega (arith, ok .time));
     }

@@ -6,7 +6,7 @@ use mathlib.Core.List.{List}
 use mathlib.Core.Bool.{Bool, true, false}
 use lib.ListN.{length}
 use Rattle.seq.specs.Seq.{put}
-use Rattle.seq.proofs.Laws.{length-put, true-false}
+use Rattle.seq.proofs.Laws.{true-false}
 use Rattle.record.specs.Record.{stateNumber}
 use Rattle.record.specs.declared.Record.{Record}
 use Rattle.table.specs.Table.{headerSize, recordSize, base, exitBase, count, settingsOf, recordAt, putRecord, clearRecord, putGenTid, putCached, putClock}
@@ -24,6 +24,7 @@ use Rattle.commit.specs.declared.Header.{Header}
 use Rattle.commit.specs.declared.Header.the-variants.{Kept, Set}
 use Rattle.commit.specs.declared.Changes.{Changes}
 use Rattle.commit.specs.Commit.{recordChanged, exitStored, genTidChanged, cacheChanged, tableAfter}
+use Rattle.commit.proofs.Length.{length-changed}
 use Rattle.commit_laws.specs.Allowed.{ChangeOk, SetOk, Allowed}
 
 -- a place below the count lies within the table
@@ -36,12 +37,6 @@ module _ (t : List ℕ) (place : ℕ) (w : WellFormed t) (h : place < count t) w
   change-keeps Nothing exit ok = w
   change-keeps (Put r) exit ok = put-keeps t place r w h (ok .0) (ok .1)
   change-keeps Clear exit ok = clear-keeps t place w h
-
-  pub change-length : (c : Change) → length (recordChanged t place c) ≡ length t
-  unfolding recordChanged putRecord clearRecord
-  change-length Nothing = refl
-  change-length (Put r) = length-put t (base place) _
-  change-length Clear = length-put t (base place) _
 
   -- exit information goes to a record that is live then
   pub live-after : (c : Change) → ChangeOk t place c true → Live (recordAt (recordChanged t place c) place)
@@ -73,7 +68,7 @@ unfolding tableAfter
 commit-keeps t c exit w ok =
     let changed : List ℕ = recordChanged t (c .place) (c .change) in
     let w₁ : WellFormed changed = change-keeps t (c .place) w (ok .place) (c .change) (c .exit) (ok .change) in
-    let n : length changed ≡ length t = change-length t (c .place) w (ok .place) (c .change) in
+    let n : length changed ≡ length t = length-changed t (c .place) (c .change) in
     let h : c .place < count changed = rw n (ok .place) in
     let live : c .exit ≡ true → Live (recordAt changed (c .place)) = λ e. live-after t (c .place) w (ok .place) (c .change) (rw e at (ok .change)) in
     let w₂ = exit-part changed (c .place) (c .exit) exit w₁ h live (ok .exit-fits) in
