@@ -1,0 +1,1 @@
+// Where a record that is found lies, and that it is in range: laws alone.
