@@ -1,0 +1,5 @@
+pub mod Rows
+pub mod Named
+pub mod Meaning
+pub mod Accepted
+pub mod Exact

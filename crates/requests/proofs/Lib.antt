@@ -1,0 +1,4 @@
+pub mod Passed
+pub mod Exact
+pub mod Accepted
+pub mod Staged

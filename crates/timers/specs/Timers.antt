@@ -1,0 +1,42 @@
+-- The timer call (01, "Events"): "fires the due record (deadline not after now) with the earliest deadline, lowest place on ties, or says none is due".
+use Prim.Native.Nat.{ℕ}
+use mathlib.Core.List.{List, [], _∷_}
+use Rattle.table.specs.Table.{count}
+use Rattle.finding.specs.Finding.{dueOf}
+use Rattle.finding.specs.declared.Found.{Found}
+use Rattle.finding.specs.declared.Found.the-variants as Found
+use Rattle.events.specs.declared.Event.the-variants as Event
+use Rattle.turns.specs.declared.Given.{Given}
+use Rattle.judging.specs.Judging.{Test, lowest, planBy, Condition, unfit, Unfit, tooLate, Late}
+use Rattle.steps.specs.Steps.{noPart, idleStep}
+use Rattle.steps.specs.declared.Call.{Call}
+use Rattle.steps.specs.declared.Tells.the-variants as Tells
+use Rattle.steps.specs.declared.Step.{Step}
+use Rattle.steps.specs.declared.Plan.{Plan}
+use Rattle.turning.specs.Turning.{liveStep}
+
+-- numbers 1 and 2, as document 01's table says them, and their tests
+abbrev pub timerConditions : List ℕ → ℕ → ℕ → ℕ → List Condition
+timerConditions t store output time = Unfit t store output ∷ Late t time ∷ []
+
+abbrev pub timerTests : List ℕ → ℕ → ℕ → ℕ → List Test
+timerTests t store output time = unfit t store output ∷ tooLate t time ∷ []
+
+-- a firing brings its time alone
+unfoldable pub firedGiven : ℕ → Given
+firedGiven time = record { time = time; kind = 0; reason = 0; len = 0; «exit_len» = 0 }
+
+-- the answer names the record, since the caller must know to whom the PDU goes
+unfoldable pub firedCall : Call
+firedCall = record { message = noPart; info = noPart; user = noPart; tells = Tells.Record }
+
+-- the due record's step; "or says none is due"
+abbrev pub stepBy : Found → List ℕ → ℕ → Step
+stepBy (Found.At i) t time = liveStep t i Event.Timer (firedGiven time) firedCall
+stepBy Found.Nothing t time = idleStep time
+
+unfoldable pub timerStep : List ℕ → ℕ → Step
+timerStep t time = stepBy (dueOf t (count t) time) t time
+
+unfoldable pub timerPlan : List ℕ → ℕ → ℕ → ℕ → Plan
+timerPlan t store output time = planBy (lowest (timerTests t store output time)) (timerStep t time)
