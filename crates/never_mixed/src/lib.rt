@@ -1,0 +1,1 @@
+// An abort and an empty result are never taken for each other: laws alone.

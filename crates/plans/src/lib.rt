@@ -1,0 +1,1 @@
+// Each plan's step is sound: laws alone.

@@ -1,0 +1,4 @@
+pub mod Sends
+pub mod Ends
+pub mod Changed
+pub mod Steps
