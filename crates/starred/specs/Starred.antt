@@ -1,9 +1,9 @@
 -- The starred cases of document 01, "Bench cases": "proved together as one table".
-use Prim.Native.Nat.{ℕ, _+_}
+use Prim.Native.Nat.{ℕ, _+_, _%_}
 use mathlib.Core.Path.{_≡_}
 use mathlib.Core.List.{List, [], _∷_}
 use mathlib.Core.Bool.{true, false}
-use lib.ListN.{replicate}
+use lib.ListN.{length, replicate}
 use Rattle.numbers.specs.declared.Malformed.{Malformed}
 use Rattle.numbers.specs.declared.Malformed.the-variants.{D1, D2, D5, D7}
 use Rattle.numbers.specs.declared.Verdict.{Verdict}
@@ -24,10 +24,18 @@ use Rattle.sending.specs.Sending.{sentPdu}
 use Rattle.tids.specs.Tids.{testOf}
 use Rattle.tids.specs.declared.Test.{Test}
 use Rattle.tids.specs.declared.Test.the-variants.{Valid, Verified}
+use Rattle.table.specs.Table.{count}
+use Rattle.finding.specs.Finding.{namedOf}
+use Rattle.finding.specs.declared.Found.the-variants.{Nothing}
+use Rattle.arrivals.specs.Arrivals.{tidOf}
+use Rattle.steps.specs.declared.Step.{Step}
+use Rattle.steps.specs.declared.Plan.the-variants.{Go}
+use Rattle.receives.specs.Receives.{receivePlan}
+use Rattle.carry.specs.Carry.{Lent, sentThen}
 use Rattle.datagram.specs.Separate.{Split, refused, parts, partsOf}
 
 -- a case: octets read as a PDU; a PDU, whose parts lie in a source, written as octets; octets malformed as a PDU; a datagram separated;
--- the test of a TID where LastTID is cached; what the engine sends of a source
+-- the test of a TID where LastTID is cached; what the engine sends of a source; what the receive call sends where no live initiator record is named
 pub data Row : Type 0 where
   reads : List ℕ → Pdu → Row
   writes : List ℕ → Pdu → List ℕ → Row
@@ -35,6 +43,7 @@ pub data Row : Type 0 where
   separates : List ℕ → Split → Row
   tests : ℕ → ℕ → Test → Row
   sends : List ℕ → Send → Sender → List ℕ → Row
+  unmatched : List ℕ → List ℕ → Row
 
 -- what a case says
 unfoldable pub Says : Row → Type 0
@@ -44,6 +53,9 @@ Says (malformed octets d) = pduOf octets ≡ blankPdu (Wrong d)
 Says (separates datagram split) = partsOf datagram ≡ split
 Says (tests last tid test) = testOf (last + 1) tid ≡ test
 Says (sends source send by octets) = octetsOf source (sentPdu send by) ≡ octets
+Says (unmatched octets sent) =
+    (l : Lent) (time peer : ℕ) (step : Step) → l .given ≡ octets → namedOf (l .table) (count (l .table)) Initiator peer (tidOf octets % 32768) ≡ Nothing
+    → receivePlan (l .table) (length (l .store)) (length (l .output)) time peer (l .given) ≡ Go step → sentThen l step ≡ sent
 
 -- every case of a table holds
 infixr 5 _and_
@@ -124,4 +136,5 @@ table =
     ∷ sends [] (Send.Invoke true) (sender Initiator 0) repeat
     ∷ sends [] (Send.Result false) (sender Responder 0) result
     ∷ sends (0xAA ∷ 0xBB ∷ []) (Send.LastAck false) (sender Initiator 2) lastAck
+    ∷ unmatched (0x1C ∷ 0x80 ∷ 0x05 ∷ []) (0x20 ∷ 0x00 ∷ 0x05 ∷ 0x02 ∷ [])
     ∷ []
