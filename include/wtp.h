@@ -17,23 +17,80 @@ extern "C" {
 
 /* Results. */
 #define WTP_OK 0
-#define WTP_WRONG_SIZE 1    /* a lent buffer has the wrong size */
+#define WTP_WRONG_SIZE 1     /* a lent buffer has the wrong size, or the table isn't well formed */
+#define WTP_WRONG_TIME 2     /* the time is below the last accepted one or over 1,000,000,000,000 */
+#define WTP_PEER_TOO_LARGE 3 /* peer over 255 */
+#define WTP_TOO_LONG 4       /* data over 1,024, exit information over 128, or exit information for a class 2 responder record */
+#define WTP_WRONG_CLASS 5    /* class over 2 */
+#define WTP_TID_IN_USE 6     /* the next TID is that of a live initiator record */
+#define WTP_TABLE_FULL 7     /* class 1 or 2 requested and no record is free */
+#define WTP_NO_RECORD 8      /* no live record of that role, peer and TID */
+#define WTP_NOT_ALLOWED 9    /* the record's state doesn't allow the call */
 #define WTP_WRONG_SETTING 10 /* a setting or the first TID is out of range */
-#define WTP_WRONG_LENGTH 11 /* a length outside 1 to 1,500, a datagram that can't be separated, no PDU to join */
-#define WTP_D1 101          /* the fixed header is cut short; in writing, a value too wide for its place */
-#define WTP_D2 102          /* the type is 0 or over 7 */
-#define WTP_D3 103          /* an item runs past the end */
-#define WTP_D4 104          /* the sixteenth item has CON set */
-#define WTP_D5 105          /* class 3 */
-#define WTP_D6 106          /* abort type over 1 */
-#define WTP_D7 107          /* bytes are left after an Ack, Abort or Nack */
+#define WTP_WRONG_LENGTH 11  /* a length outside 1 to 1,500, a datagram that can't be separated, no PDU to join */
+#define WTP_D1 101           /* the fixed header is cut short; in writing, a value too wide for its place */
+#define WTP_D2 102           /* the type is 0 or over 7 */
+#define WTP_D3 103           /* an item runs past the end */
+#define WTP_D4 104           /* the sixteenth item has CON set */
+#define WTP_D5 105           /* class 3 */
+#define WTP_D6 106           /* abort type over 1 */
+#define WTP_D7 107           /* bytes are left after an Ack, Abort or Nack */
 
 /* Sizes, in elements. */
 #define WTP_SETTINGS 32 /* words of settings */
-#define WTP_FIELDS 88  /* words of a PDU */
-#define WTP_ANSWER 32  /* words of an answer */
-#define WTP_PART 3     /* words of a part */
-#define WTP_OUTPUT 1500 /* octets of the output that wtp_write and wtp_join ask for */
+#define WTP_FIELDS 88   /* words of a PDU */
+#define WTP_ANSWER 32   /* words of an answer, at least */
+#define WTP_PART 3      /* words of a part */
+#define WTP_CELL 1024   /* octets of the store for each record of the table; data is as long at most */
+#define WTP_EXIT 128    /* octets of exit information, at most; none is exit information of length 0 */
+#define WTP_SENDING 1028 /* octets of the output that the engine's six calls ask for, at least */
+#define WTP_OUTPUT 1500 /* octets of the output that wtp_write and wtp_join ask for, at least */
+
+/* Roles. */
+#define WTP_INITIATOR 0
+#define WTP_RESPONDER 1
+
+/* Kinds of indication. A result without data is a result; an abort is never shown as one. */
+#define WTP_KIND_INVOKE 1
+#define WTP_KIND_CONFIRMATION 2
+#define WTP_KIND_RESULT 3
+#define WTP_KIND_ABORT 4
+
+/* Abort types, and the reasons of a provider; a user's reason is the user's own octet. */
+#define WTP_ABORT_PROVIDER 0
+#define WTP_ABORT_USER 1
+#define WTP_REASON_PROTOERR 1
+#define WTP_REASON_INVALIDTID 2
+#define WTP_REASON_NOTIMPLEMENTEDSAR 4
+#define WTP_REASON_WTPVERSIONONE 6
+#define WTP_REASON_CAPTEMPEXCEEDED 7
+#define WTP_REASON_NORESPONSE 8
+
+/* Where the data of an indication lies. */
+#define WTP_FROM_DATAGRAM 0 /* its start counts from the first octet of the PDU that wtp_receive was lent */
+#define WTP_FROM_STORE 1    /* its start counts from the first octet of the store */
+
+/* Words of an answer; the last word is 0. */
+enum {
+    WTP_SENT = 0,       /* octets at the start of the output that are to be sent, 0 none */
+    WTP_INDICATIONS,    /* 0 to 2 */
+    WTP_GIVEN_TID,      /* wtp_request: the TID given to the request */
+    WTP_FIRED,          /* wtp_timer: 1 a record was fired, 0 none was due */
+    WTP_FIRST = 4,      /* the first indication, 12 words, 0 where there is none */
+    WTP_SECOND = 16,    /* the second indication */
+    WTP_FIRED_ROLE = 28, /* wtp_timer: the record that was fired, and so where the PDU goes */
+    WTP_FIRED_PEER,
+    WTP_FIRED_TID
+};
+
+/* Words of an indication, counted from WTP_FIRST or WTP_SECOND; the last word is 0. */
+enum {
+    WTP_SHOWN_KIND = 0,
+    WTP_SHOWN_ROLE, WTP_SHOWN_PEER, WTP_SHOWN_TID, /* the record that it concerns */
+    WTP_SHOWN_CLASS, WTP_SHOWN_UP,                 /* an Invoke, else 0 */
+    WTP_SHOWN_ABORT_TYPE, WTP_SHOWN_REASON,        /* an abort, else 0 */
+    WTP_SHOWN_SOURCE, WTP_SHOWN_START, WTP_SHOWN_LENGTH /* its data; all 0 where nothing carries data */
+};
 
 /* Words of a PDU. */
 enum {
@@ -51,6 +108,50 @@ uint64_t wtp_table_bytes(uint64_t records);
 /* Makes a table fresh, whatever it held: no live record, nothing cached, clock 0, these settings, and `first_tid` for the first request.
  * 1: not the size of a table for 1 to 48 records; 10: not 32 words, or one of them or `first_tid` out of range. */
 uint64_t wtp_fresh(uint8_t *table, size_t table_len, const uint64_t *settings, size_t settings_len, uint64_t first_tid);
+
+/* The engine's six calls share their first parameters. `table` is one that wtp_fresh made, `store` has 1,024 octets for each of its
+ * records, `out` at least 1,028 octets and `answer` at least 32 words. Between two calls all four are the caller's, to keep or to
+ * copy: the engine has no other memory. `now` is in milliseconds. An accepted call stores it, writes at most one PDU at the start
+ * of `out` (for the peer that the call, or the fired record, names) and the first 32 words of `answer`. Each call gives the lowest
+ * number that applies; 1 (a size, a table that isn't well formed) and 2 (the time) apply to all six. */
+
+/* Requests a transaction of class `cls` with `peer`: sends an Invoke with `data`, with the U/P flag where `user_ack` isn't 0, under
+ * the next TID, which the answer gives. Class 0 ends with it; class 1 and 2 open an initiator record, which goes on until a
+ * confirmation (class 1), a result that was answered (class 2) or an abort.
+ * 1, 2; 3: peer; 4: more than 1,024 octets of data; 5: class over 2; 6: the next TID is in use; 7: no record is free. */
+uint64_t wtp_request(uint8_t *table, size_t table_len, uint8_t *store, size_t store_len, uint8_t *out, size_t out_len,
+                     uint64_t *answer, size_t answer_len, uint64_t now, uint64_t peer, uint64_t cls, uint64_t user_ack,
+                     const uint8_t *data, size_t data_len);
+
+/* Answers the Invoke or the result that was shown for this record (TR-Invoke.res, TR-Result.res), so that it is acknowledged.
+ * Exit information goes with the last Ack, and so not with the Invoke of a class 2 transaction.
+ * 1, 2; 3: peer; 4: more than 128 octets, or any for a live class 2 responder record; 8: no such record; 9: nothing to answer. */
+uint64_t wtp_answer(uint8_t *table, size_t table_len, uint8_t *store, size_t store_len, uint8_t *out, size_t out_len,
+                    uint64_t *answer, size_t answer_len, uint64_t now, uint64_t role, uint64_t peer, uint64_t tid,
+                    const uint8_t *exit_information, size_t exit_information_len);
+
+/* Gives the result of a class 2 transaction, once its Invoke was shown: sends a Result with `data`, which may be empty.
+ * 1, 2; 3: peer; 4: more than 1,024 octets of data; 8: no such record; 9: not a class 2 responder record that waits for it. */
+uint64_t wtp_result(uint8_t *table, size_t table_len, uint8_t *store, size_t store_len, uint8_t *out, size_t out_len,
+                    uint64_t *answer, size_t answer_len, uint64_t now, uint64_t role, uint64_t peer, uint64_t tid,
+                    const uint8_t *data, size_t data_len);
+
+/* Aborts the transaction: sends an Abort of the user with `reason`, any octet, and frees the record.
+ * 1, 2; 3: peer; 8: no such record; 9: the Invoke is still being verified and was not shown. */
+uint64_t wtp_abort(uint8_t *table, size_t table_len, uint8_t *store, size_t store_len, uint8_t *out, size_t out_len,
+                   uint64_t *answer, size_t answer_len, uint64_t now, uint64_t role, uint64_t peer, uint64_t tid,
+                   uint8_t reason);
+
+/* Takes one PDU that came from `peer`; a datagram is separated first (wtp_separate). A malformed PDU is an event and no refusal,
+ * and what names no record and opens none is accepted and ignored. What is sent goes to `peer`.
+ * 1, 2; 3: peer; 11: length outside 1 to 1,500. */
+uint64_t wtp_receive(uint8_t *table, size_t table_len, uint8_t *store, size_t store_len, uint8_t *out, size_t out_len,
+                     uint64_t *answer, size_t answer_len, uint64_t now, uint64_t peer, const uint8_t *pdu, size_t pdu_len);
+
+/* Fires the due record with the earliest deadline, the lowest place on ties, or says that none is due: call again until then.
+ * 1, 2. */
+uint64_t wtp_timer(uint8_t *table, size_t table_len, uint8_t *store, size_t store_len, uint8_t *out, size_t out_len,
+                   uint64_t *answer, size_t answer_len, uint64_t now);
 
 /* Reads the PDU in `pdu` into the first 88 words of `fields`. Starts count from the PDU's first octet.
  * 1: fewer than 88 words; 11: length outside 1 to 1,500; then D2, D1, D5, D6, D3 or D4, D7. */

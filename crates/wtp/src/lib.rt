@@ -1,10 +1,14 @@
 // The C interface (include/wtp.h): words in and words out, over the proved calls.
 ghost use mathlib.Core.Path.{_≡_};
 ghost use Prim.Native.Nat.{_≤_};
+ghost use mathlib.Core.List.{[]};
 ghost use lib.ListN.{length};
+ghost use lib.Dec.{ltb};
 ghost use Rattle.seq.specs.Seq.{put};
+ghost use Rattle.carry.specs.Carry.{lent};
 ghost use Rattle.fresh.specs.Fresh.{tableBytes, freshAnswer, freshNumber, tableAfter};
 ghost use Rattle.wtp.specs.Calls.{kindNumber, readNumber, fieldsAfter, writeNumber, writeOutput, writeAnswer, separateNumber, partAfter, joinNumber, joinOutput, joinAnswer, lengthAnswer};
+ghost use Rattle.wtp.specs.Engine.{called, requestCalled, answerCalled, resultCalled, abortCalled, receiveCalled, timerCalled};
 use datagram::Separation;
 use fresh::Fresh;
 use joiner::Joining;
@@ -126,4 +130,137 @@ pub extern "C" fn wtp_join(bytes: &[u8], lengths: &[u64], out: &mut [u8], answer
         }
         Joining::Refused(r) => numbers::number(r),
     }
+}
+
+// The words of an answer are fewer than 32.
+fn too_few(answer: &[u64]) -> bool
+    ensures { λ r. ⌜ r ≡ ltb (length (now (answer .entry))) 32 ⌝ }
+{
+    answer.len() < 32
+}
+
+// A user's request of a class with its data.
+#[no_mangle]
+pub extern "C" fn wtp_request(
+    table: &mut [u8],
+    store: &mut [u8],
+    out: &mut [u8],
+    answer: &mut [u64],
+    time: u64,
+    peer: u64,
+    class: u64,
+    user_ack: u64,
+    user: &[u8],
+) -> u64
+    ensures { λ r. ⌜ called r (now (table .exit)) (now (store .exit)) (now (out .exit)) (now (answer .exit)) ≡ requestCalled (lent (now (table .entry)) (now (store .entry)) (now (out .entry)) (now (user .entry)) []) (now (answer .entry)) time peer class «user_ack» ⌝ }
+{
+    if too_few(answer) {
+        return numbers::number(Refusal::WrongSize);
+    }
+    let a = calls::request(table, store, out, time, peer, class, 0 < user_ack, user);
+    answers::give(answer, a)
+}
+
+// A user's answer with exit information.
+#[no_mangle]
+pub extern "C" fn wtp_answer(
+    table: &mut [u8],
+    store: &mut [u8],
+    out: &mut [u8],
+    answer: &mut [u64],
+    time: u64,
+    role: u64,
+    peer: u64,
+    tid: u64,
+    exit: &[u8],
+) -> u64
+    ensures { λ r. ⌜ called r (now (table .exit)) (now (store .exit)) (now (out .exit)) (now (answer .exit)) ≡ answerCalled (lent (now (table .entry)) (now (store .entry)) (now (out .entry)) [] (now (exit .entry))) (now (answer .entry)) time role peer tid ⌝ }
+{
+    if too_few(answer) {
+        return numbers::number(Refusal::WrongSize);
+    }
+    let a = calls::answer(table, store, out, time, role, peer, tid, exit);
+    answers::give(answer, a)
+}
+
+// A user's result with its data.
+#[no_mangle]
+pub extern "C" fn wtp_result(
+    table: &mut [u8],
+    store: &mut [u8],
+    out: &mut [u8],
+    answer: &mut [u64],
+    time: u64,
+    role: u64,
+    peer: u64,
+    tid: u64,
+    user: &[u8],
+) -> u64
+    ensures { λ r. ⌜ called r (now (table .exit)) (now (store .exit)) (now (out .exit)) (now (answer .exit)) ≡ resultCalled (lent (now (table .entry)) (now (store .entry)) (now (out .entry)) (now (user .entry)) []) (now (answer .entry)) time role peer tid ⌝ }
+{
+    if too_few(answer) {
+        return numbers::number(Refusal::WrongSize);
+    }
+    let a = calls::result(table, store, out, time, role, peer, tid, user);
+    answers::give(answer, a)
+}
+
+// A user's abort with its reason.
+#[no_mangle]
+pub extern "C" fn wtp_abort(
+    table: &mut [u8],
+    store: &mut [u8],
+    out: &mut [u8],
+    answer: &mut [u64],
+    time: u64,
+    role: u64,
+    peer: u64,
+    tid: u64,
+    reason: u8,
+) -> u64
+    ensures { λ r. ⌜ called r (now (table .exit)) (now (store .exit)) (now (out .exit)) (now (answer .exit)) ≡ abortCalled (lent (now (table .entry)) (now (store .entry)) (now (out .entry)) [] []) (now (answer .entry)) time role peer tid reason ⌝ }
+{
+    if too_few(answer) {
+        return numbers::number(Refusal::WrongSize);
+    }
+    let a = calls::abort(table, store, out, time, role, peer, tid, reason);
+    answers::give(answer, a)
+}
+
+// One PDU that came from a peer.
+#[no_mangle]
+pub extern "C" fn wtp_receive(
+    table: &mut [u8],
+    store: &mut [u8],
+    out: &mut [u8],
+    answer: &mut [u64],
+    time: u64,
+    peer: u64,
+    octets: &[u8],
+) -> u64
+    ensures { λ r. ⌜ called r (now (table .exit)) (now (store .exit)) (now (out .exit)) (now (answer .exit)) ≡ receiveCalled (lent (now (table .entry)) (now (store .entry)) (now (out .entry)) (now (octets .entry)) []) (now (answer .entry)) time peer ⌝ }
+{
+    if too_few(answer) {
+        return numbers::number(Refusal::WrongSize);
+    }
+    let a = calls::receive(table, store, out, time, peer, octets);
+    answers::give(answer, a)
+}
+
+// Fires one due record.
+#[no_mangle]
+pub extern "C" fn wtp_timer(
+    table: &mut [u8],
+    store: &mut [u8],
+    out: &mut [u8],
+    answer: &mut [u64],
+    time: u64,
+) -> u64
+    ensures { λ r. ⌜ called r (now (table .exit)) (now (store .exit)) (now (out .exit)) (now (answer .exit)) ≡ timerCalled (lent (now (table .entry)) (now (store .entry)) (now (out .entry)) [] []) (now (answer .entry)) time ⌝ }
+{
+    if too_few(answer) {
+        return numbers::number(Refusal::WrongSize);
+    }
+    let a = calls::timer(table, store, out, time);
+    answers::give(answer, a)
 }

@@ -1,0 +1,28 @@
+-- What each engine call gives: number 1 where the answer has too few words, else the engine's answer, handed over. Assumes nothing.
+use Prim.Native.Nat.{ℕ, _≤_}
+use mathlib.Core.Path.{_≡_, refl, sym, _∙_}
+use mathlib.Core.Bool.{Bool, true, false}
+use mathlib.Core.List.{List}
+use lib.ListN.{length}
+use lib.Dec.{ltb}
+use borrow.Author.Tests.{ltb-false}
+use Rattle.numbers.specs.Numbers.{numberOf}
+use Rattle.numbers.specs.declared.Refusal.the-variants.{WrongSize}
+use Rattle.carry.specs.Carry.{Lent, Done, done}
+use Rattle.carry.specs.declared.Answer.{Answer}
+use Rattle.answers.specs.Answers.{answerNumber, answerAfter}
+use Rattle.wtp.specs.Engine.{called, handed, orSmall}
+
+module _ (words : List ℕ) (few : Bool) (size : few ≡ ltb (length words) 32) where
+  pub enough : few ≡ false → 32 ≤ length words
+  enough f = ltb-false (length words) 32 (sym size ∙ f)
+
+  module _ (l : Lent) (d : Done) where
+    pub refused-small : few ≡ true → (r : ℕ) → r ≡ numberOf WrongSize → called r (l .table) (l .store) (l .output) words ≡ orSmall l words d
+    unfolding orSmall
+    refused-small t r e = rw (sym size ∙ t, e) refl
+
+    pub handed-over : few ≡ false → (a : Answer) (t s o : List ℕ) → done a t s o ≡ d → (r : ℕ) (w : List ℕ) → (r ≡ answerNumber a) × (w ≡ answerAfter a words)
+        → called r t s o w ≡ orSmall l words d
+    unfolding orSmall handed
+    handed-over f a t s o e r w g = rw (sym size ∙ f, ← e, g .0, g .1) refl
