@@ -31,7 +31,7 @@ fn read_case(bytes: &[u8]) {
 
 fn write_line(line: &[u8], bytes: &[u8]) {
     let mut fields = [0u64; 88];
-    parse::set_words(line, &mut fields);
+    lines::set_words(line, 2, &mut fields);
     write_case(&fields, bytes);
 }
 
@@ -52,7 +52,7 @@ fn separate_case(datagram: &[u8]) {
 
 fn join_case(line: &[u8], bytes: &[u8]) {
     let mut lengths = [0u64; 64];
-    let count = parse::gather(line, &mut lengths);
+    let count = lines::gather(line, 2, &mut lengths);
     let mut out = [238u8; 1500];
     let mut answer = [0u64; 32];
     let n = wtp::wtp_join(bytes, &lengths[..count], &mut out, &mut answer);

@@ -6,7 +6,7 @@ use Rattle.codec_cases.proofs.join_case.Statement.{statement}
 use Rattle.codec_cases.proofs.join_case.Tie as tie
 use Rattle.codec_cases.proofs.join_case.Reads as reads
 use Rattle.codec_cases.proofs.join_case.Lts as lts
-use Rattle.codec_cases.proofs.parse.gather.Reads as gather-reads
+use Rattle.lines.proofs.gather.Reads as gather-reads
 use Rattle.codec_cases.proofs.show.first.Reads as first-reads
 use Rattle.codec_cases.proofs.show.outcome.Reads as outcome-reads
 use Rattle.wtp.proofs.wtp_join.Reads as wtp-join-reads

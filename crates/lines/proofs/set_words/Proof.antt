@@ -1,53 +1,53 @@
--- `codec_cases::parse::set_words` meets its contract: the words keep their number. Assumes nothing.
+-- `lines::set_words` meets its contract: the words keep their number. Assumes nothing.
 use borrow.Author.Needs.{needs}
 use Prim.Native.Nat.{_+_, _-_, _≤_, _<_}
 use mathlib.Core.Path.{_≡_}
 use lib.ListN.{length}
-use Rattle.codec_cases.proofs.parse.set_words.Statement.{statement}
-use Rattle.codec_cases.proofs.parse.set_words.Tie as tie
-use Rattle.codec_cases.proofs.parse.set_words.Reads as reads
-use Rattle.codec_cases.proofs.parse.set_words.Lts as lts
-use Rattle.codec_cases.proofs.parse.word_at.Reads as word-at-reads
+use Rattle.lines.proofs.set_words.Statement.{statement}
+use Rattle.lines.proofs.set_words.Tie as tie
+use Rattle.lines.proofs.set_words.Reads as reads
+use Rattle.lines.proofs.set_words.Lts as lts
+use Rattle.lines.proofs.word_at.Reads as word-at-reads
 
 abbrev Inv-loop : tie.InvT-loop
-Inv-loop line fields₀ at₀ -turn₀ -turn-end fields at -turn = (-turn ≤ -turn-end) × (-turn-end ≡ length line) × (length fields ≡ length fields₀)
+Inv-loop line from fields₀ at₀ -turn₀ -turn-end fields at -turn = (-turn ≤ -turn-end) × (-turn-end ≡ length line) × (length fields ≡ length fields₀)
 
 abbrev μ-loop : tie.MeasureT-loop
-μ-loop line fields₀ at₀ -turn₀ -turn-end fields at -turn = -turn-end - -turn
+μ-loop line from fields₀ at₀ -turn₀ -turn-end fields at -turn = -turn-end - -turn
 
--- src/parse.rt:70:5
+-- src/lib.rt:70:5
 loop-holds : tie.Need-loop-holds Inv-loop μ-loop
 loop-holds c = search needs
 
--- src/parse.rt:72:13
+-- src/lib.rt:72:13
 same-length : tie.Need-same-length Inv-loop μ-loop
 same-length c = search needs
 
--- src/parse.rt:72:13
+-- src/lib.rt:72:13
 returns : tie.Need-returns Inv-loop μ-loop
 returns c = search needs
 
--- src/parse.rt:74:9
+-- src/lib.rt:74:9
 word-at-requires : tie.Need-word-at-requires Inv-loop μ-loop
 word-at-requires c κs = search needs
 
--- src/parse.rt:70:9
+-- src/lib.rt:70:9
 add--turn : tie.Need-add--turn Inv-loop μ-loop
 add--turn c = search needs
 
--- src/parse.rt:70:5
+-- src/lib.rt:70:5
 loop-less : tie.Need-loop-less Inv-loop μ-loop
 loop-less c = search needs
 
--- src/parse.rt:70:5
+-- src/lib.rt:70:5
 loop-again : tie.Need-loop-again Inv-loop μ-loop
 loop-again c = search needs
 
--- src/parse.rt:68:1
+-- src/lib.rt:68:1
 same-length-2 : tie.Need-same-length-2 Inv-loop μ-loop
 same-length-2 c = search needs
 
--- src/parse.rt:68:1
+-- src/lib.rt:68:1
 returns-2 : tie.Need-returns-2 Inv-loop μ-loop
 returns-2 c = search needs
 

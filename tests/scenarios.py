@@ -1,0 +1,1506 @@
+#!/usr/bin/env python3
+"""Writes the scenarios and what they must give: crates/scenarios/stdin and stdout.
+
+An independent reading of document 01 ("Numbers given back", "TIDs", "Events", bench cases, mix-ups), of the C interface's words and of
+docs/TABLE.md: nothing here is taken from the definitions or the code, so the program's output is compared with a second opinion.
+It fails, and names them, if a row, a test of a first Invoke, a refusal or an edge case is not reached; what a scenario is there to show
+is written beside its line as `has` and compared with what the reading gives.
+usage: tests/scenarios.py [--check]   (--check: only say whether both files are as this script writes them)
+"""
+import pathlib
+import sys
+
+BOUND = 10 ** 12
+LONGEST = 86400000
+HEADER, RECORD, CELL = 624, 160, 1024
+INITIATOR, RESPONDER = 0, 1
+ROLES = ["initiator", "responder"]
+STATES = ["Free", "IResultWait1", "IResultWait2", "IResultRespWait", "IWaitTimeout", "RTidokWait1", "RTidokWait2",
+          "RInvokeRespWait1", "RInvokeRespWait2", "RResultWait", "RResultRespWait", "RWaitTimeout"]
+CLASS = {"IResultWait1": 1, "RTidokWait1": 1, "RInvokeRespWait1": 1, "RWaitTimeout": 1}
+reached = set()
+
+
+def number(octets):
+    return int.from_bytes(octets, "little")
+
+
+# ---- the table, docs/TABLE.md
+
+class Record:
+    """A live record, or a free one."""
+
+    def __init__(self, w):
+        self.state, self.peer, self.tid, self.rcr, self.aec = STATES[w[0]], w[1], number(w[2:4]), w[4], w[5]
+        self.up, self.held, self.tidok_sent, self.hold_on_sent = (w[6] >> k & 1 for k in range(4))
+        self.deadline, self.length, self.exit, self.past_exit = number(w[8:16]), number(w[16:20]), bytes(w[32:32 + w[7]]), bytes(w[32:RECORD])
+
+    def octets(self):
+        marks = self.up + 2 * self.held + 4 * self.tidok_sent + 8 * self.hold_on_sent
+        w = bytes([STATES.index(self.state), self.peer]) + self.tid.to_bytes(2, "little") + bytes([self.rcr, self.aec, marks, len(self.exit)])
+        w += self.deadline.to_bytes(8, "little") + self.length.to_bytes(4, "little") + bytes(12)
+        return w + self.exit + self.past_exit[len(self.exit):]
+
+    def live(self):
+        return self.state != "Free"
+
+    def role(self):
+        return INITIATOR if self.state[0] == "I" else RESPONDER
+
+    def cls(self):
+        return CLASS.get(self.state, 2)
+
+    def free(self):
+        self.__init__(bytes(RECORD))
+
+
+class Table:
+    """A table as its octets say; rows[0] and rows[1] are the intervals of class 1 and 2."""
+
+    def __init__(self, t):
+        self.clock, self.gen, self.rcr_max, self.aec_max = number(t[0:8]), number(t[8:10]), t[10], t[11]
+        x = [number(t[at:at + 4]) for at in range(12, 92, 4)]
+        self.a, self.w, self.rows = x[0], x[1], [x[2:11], x[11:20]]
+        self.last = [number(t[at:at + 2]) - 1 for at in range(112, HEADER, 2)]
+        self.records = [Record(t[at:at + RECORD]) for at in range(HEADER, len(t), RECORD)]
+
+    def octets(self):
+        t = self.clock.to_bytes(8, "little") + self.gen.to_bytes(2, "little") + bytes([self.rcr_max, self.aec_max])
+        t += b"".join(x.to_bytes(4, "little") for x in [self.a, self.w] + self.rows[0] + self.rows[1]) + bytes(20)
+        t += b"".join((x + 1).to_bytes(2, "little") for x in self.last)
+        return t + b"".join(r.octets() for r in self.records)
+
+    def named(self, role, peer, tid):
+        return next((r for r in self.records if r.live() and (r.role(), r.peer, r.tid) == (role, peer, tid)), None)
+
+    def lowest_free(self):
+        return next((r for r in self.records if not r.live()), None)
+
+
+def well_formed(t):
+    """01: all fields in range, free records zero, no two live records with the same role, peer and TID."""
+    if number(t[0:8]) > BOUND or number(t[8:10]) > 32767 or t[10] > 8 or t[11] > 8 or any(t[92:112]):
+        return False
+    if not all(1 <= number(t[at:at + 4]) <= LONGEST for at in range(12, 92, 4)):
+        return False
+    if any(number(t[at:at + 2]) > 32768 for at in range(112, HEADER, 2)):
+        return False
+    names = []
+    for at in range(HEADER, len(t), RECORD):
+        w = t[at:at + RECORD]
+        if w[0] == 0:
+            if any(w):
+                return False
+            continue
+        if w[0] > 11 or number(w[2:4]) > 32767 or w[4] > t[10] or w[5] > t[11] or w[6] > 15 or w[7] > 128 or any(w[20:32]):
+            return False
+        if number(w[8:16]) > BOUND + LONGEST or number(w[16:20]) > CELL:
+            return False
+        names.append((w[0] <= 4, w[1], number(w[2:4])))
+    return len(set(names)) == len(names)
+
+
+# ---- PDUs, 01 "Bytes on the air"
+
+class Pdu:
+    """A PDU that is well formed: its fields, the place of its user data and of its first Info item."""
+
+    def __init__(self, s):
+        self.typ, flags, self.tid = s[0] >> 3 & 15, s[0] & 7, s[1] << 8 & 32512 | s[2]
+        self.ttr, self.rid, self.tve = flags >> 1 & 1, flags & 1, flags >> 2 & 1
+        self.abort_type = flags
+        self.fourth = s[3] if len(s) > 3 else 0
+        self.info = self.user = None
+
+    def kind(self):
+        """The event's name, each PDU and flag that a row may ask for apart."""
+        rid = " RID" if self.rid else ""
+        if self.typ == 2:
+            return "Result" + ("" if self.ttr else " cut") + rid
+        if self.typ == 3:
+            return ("Tve" if self.tve else "Ack") + rid
+        return {1: "Invoke" + rid, 4: "Abort", 5: "Segmented Invoke", 6: "Segmented Result", 7: "Nack"}[self.typ]
+
+
+def parse(s):
+    """The PDU, or None where it is malformed."""
+    fixed = {1: 4, 2: 3, 3: 3, 4: 4, 5: 4, 6: 4, 7: 4}.get(s[0] >> 3 & 15)
+    if fixed is None or len(s) < fixed:
+        return None
+    p = Pdu(s)
+    at = fixed + (p.fourth if p.typ == 7 else 0)
+    if at > len(s) or p.typ == 1 and p.fourth & 3 == 3 or p.typ == 4 and p.abort_type > 1:
+        return None
+    more, left = s[0] >> 7, 16
+    while more:
+        if left == 0 or at >= len(s) or s[at] & 4 and at + 1 >= len(s):
+            return None
+        start, length = (at + 2, s[at + 1]) if s[at] & 4 else (at + 1, s[at] & 3)
+        if start + length > len(s):
+            return None
+        if s[at] >> 3 & 15 == 1 and p.info is None:
+            p.info = (start, length)
+        more, at, left = s[at] >> 7, start + length, left - 1
+    if p.typ in (3, 4, 7) and at < len(s):
+        return None
+    p.user = (at, len(s) - at)
+    return p
+
+
+def pdu(first, role, tid, rest=b""):
+    """Octets towards the other end: the top bit is 0 from an initiator, 1 from a responder."""
+    return bytes([first, role << 7 | tid >> 8, tid & 255]) + bytes(rest)
+
+
+def exit_item(x):
+    return b"" if not x else bytes([8 + len(x)]) + x if len(x) <= 3 else bytes([12, len(x)]) + x
+
+
+def last_ack(r, rid):
+    return pdu((0x98 if r.exit else 0x18) + rid, r.role(), r.tid, exit_item(r.exit))
+
+
+def invoke_pdu(tid, cls, up, rid, octets):
+    return pdu(0x0E + rid, INITIATOR, tid, bytes([16 * up + cls]) + octets)
+
+
+# ---- one accepted call
+
+LIBRARY_EVENT = {"Invoke": "Invoke", "Invoke RID": "InvokeRid", "Result cut": "ResultCut", "Result cut RID": "ResultCutRid", "Result": "Result",
+                 "Result RID": "ResultRid", "Ack": "PlainAck", "Ack RID": "PlainAck", "Tve": "TidAck", "Tve RID": "TidAckRid", "Abort": "ReceivedAbort",
+                 "Segmented Invoke": "Segmented", "Segmented Result": "Segmented", "Nack": "Segmented", "malformed": "MalformedPdu",
+                 "answer": "UserAnswer", "result": "UserResult", "abort": "UserAbort", "timer": "Timer", "request": "Request"}
+NO_DATA = (0, 0, 0)
+
+
+class Call:
+    """What an accepted call does: PDU, indications, and the row it meets."""
+
+    def __init__(self, end, table, time):
+        self.end, self.t, self.time = end, table, time
+        self.sent, self.shown, self.tid, self.fired, self.met, self.refusal = b"", [], None, None, "", 0
+
+    def meet(self, state, event, row, condition=""):
+        self.met = " {%s %s %s}" % (state, LIBRARY_EVENT[event], row)
+        reached.add((state, event, condition))
+        reached.add(("row", row if state != "Free" else "opening " + row, ""))
+
+    def cell(self, r):
+        return CELL * self.t.records.index(r)
+
+    def message(self, r):
+        return bytes(self.end.store[self.cell(r):self.cell(r) + r.length])
+
+    def keep(self, r, octets):
+        at = self.cell(r)
+        self.end.store[at:at + len(octets)] = octets
+        r.length = len(octets)
+
+    def show(self, kind, r, place=NO_DATA, cls=0, up=0, abort_type=0, reason=0):
+        self.shown.append((kind, r.role(), r.peer, r.tid, cls, up, abort_type, reason) + place)
+
+    def start(self, r, interval):
+        r.deadline = self.time + interval
+
+    def provider_abort(self, r, reason):
+        self.sent = pdu(0x20, r.role(), r.tid, [reason])
+        self.show("abort", r, reason=reason)
+        r.free()
+
+    def give_up(self, r):
+        self.show("abort", r, reason=8)
+        r.free()
+
+
+def silent_user(c, r, event):
+    """Timer with user acknowledgement: the AEC rule, the same for both ends."""
+    if r.aec < c.t.aec_max:
+        c.meet(r.state, event, "UserAwaited", "U/P, AEC < AEC_MAX")
+        r.aec += 1
+        c.start(r, c.t.a)
+    else:
+        c.meet(r.state, event, "UserSilent", "U/P, AEC = AEC_MAX")
+        c.provider_abort(r, 8)
+
+
+def send_last_ack(c, r, state, exit_info):
+    r.exit = exit_info
+    r.state = state
+    c.sent = last_ack(r, 0)
+    c.start(r, c.t.w)
+
+
+def i_result_wait(c, r, event, p, given):
+    interval = c.t.rows[r.cls() - 1]
+    if event in ("Tve", "Tve RID", "timer"):
+        if r.rcr == c.t.rcr_max:
+            c.meet(r.state, event, "GivenUp" if event == "timer" else "Ignored", "RCR = RCR_MAX")
+            return c.give_up(r) if event == "timer" else None
+        c.meet(r.state, event, "Resent" if event == "timer" else "TidokSent", "RCR < RCR_MAX, TIDok " + ("sent" if r.tidok_sent else "not sent"))
+        if event == "timer" and not r.tidok_sent:
+            c.sent = invoke_pdu(r.tid, r.cls(), r.up, 1, c.message(r))
+        else:
+            c.sent = pdu(0x1C + r.tidok_sent, INITIATOR, r.tid)
+            r.tidok_sent = 1
+        r.rcr += 1
+        return c.start(r, interval[r.rcr])
+    if event in ("Ack", "Ack RID"):
+        info = (0,) + p.info if p.info else NO_DATA
+        if r.cls() == 1:
+            c.meet(r.state, event, "Confirmed")
+            c.show("confirm", r, info)
+            return r.free()
+        if r.held:
+            return c.meet(r.state, event, "Ignored", "HoldOn")
+        c.meet(r.state, event, "HeldOn", "not HoldOn")
+        c.show("confirm", r, info)
+        r.held, r.deadline = 1, 0
+        return None
+    if event.startswith("Result") and r.cls() == 2:
+        if not p.ttr:
+            c.meet(r.state, event, "ResultUnsupported")
+            return c.provider_abort(r, 4)
+        c.meet(r.state, event, "ResultTaken" if r.held else "ResultConfirms", "HoldOn" if r.held else "not HoldOn")
+        if not r.held:
+            c.show("confirm", r)
+        c.show("result", r, (0,) + p.user)
+        r.aec, r.state = 0, "IResultRespWait"
+        return c.start(r, c.t.a)
+    return no_row(c, r, event)
+
+
+def i_result_resp_wait(c, r, event, p, given):
+    if event == "answer":
+        c.meet(r.state, event, "ResultAnswered", "exit information" if given else "")
+        return send_last_ack(c, r, "IWaitTimeout", given)
+    if event == "timer" and not r.up:
+        c.meet(r.state, event, "ResultAcked", "no U/P")
+        return send_last_ack(c, r, "IWaitTimeout", b"")
+    if event == "timer":
+        return silent_user(c, r, event)
+    return no_row(c, r, event)
+
+
+def i_wait_timeout(c, r, event, p, given):
+    if event in ("Result RID", "Result cut RID"):
+        c.meet(r.state, event, "ResultSeenAgain", "exit information" if r.exit else "")
+        c.sent = last_ack(r, 1)
+        return None
+    if event == "timer":
+        c.meet(r.state, event, "TimeoutEnds")
+        return r.free()
+    return no_row(c, r, event)
+
+
+def r_tidok_wait(c, r, event, p, given):
+    if event in ("Tve", "Tve RID"):
+        cached = c.t.last[r.peer] >= 0
+        c.meet(r.state, event, "Verified%d" % r.cls(), "cached" if cached else "none cached")
+        c.show("invoke", r, (1, c.cell(r), r.length), r.cls(), r.up)
+        if not cached:
+            c.t.last[r.peer] = r.tid
+        r.aec, r.state = 0, "RInvokeRespWait%d" % r.cls()
+        return c.start(r, c.t.a)
+    if event == "Invoke RID":
+        c.meet(r.state, event, "TidveRepeated")
+        c.sent = pdu(0x1D, RESPONDER, r.tid)
+        return None
+    return no_row(c, r, event)
+
+
+def send_result(c, r, event, octets):
+    c.meet(r.state, event, "ResultSent")
+    c.keep(r, octets)
+    c.sent = pdu(0x16, RESPONDER, r.tid, octets)
+    r.rcr, r.state = 0, "RResultRespWait"
+    c.start(r, c.t.rows[1][0])
+
+
+def hold_on(c, r, event, condition=""):
+    c.meet(r.state, event, "HoldOnSent", condition)
+    c.sent = pdu(0x18, RESPONDER, r.tid)
+    r.hold_on_sent, r.deadline, r.state = 1, 0, "RResultWait"
+
+
+def r_invoke_resp_wait(c, r, event, p, given):
+    if event == "answer" and r.cls() == 1:
+        c.meet(r.state, event, "InvokeAnswered", "exit information" if given else "")
+        return send_last_ack(c, r, "RWaitTimeout", given)
+    if event == "answer":
+        c.meet(r.state, event, "UserWorks")
+        r.state = "RResultWait"
+        return c.start(r, c.t.a)
+    if event == "result" and r.cls() == 2:
+        return send_result(c, r, event, given)
+    if event == "timer" and r.up:
+        return silent_user(c, r, event)
+    if event == "timer" and r.cls() == 1:
+        c.meet(r.state, event, "InvokeAcked", "no U/P")
+        return send_last_ack(c, r, "RWaitTimeout", b"")
+    if event == "timer":
+        return hold_on(c, r, event, "no U/P")
+    return no_row(c, r, event)
+
+
+def r_result_wait(c, r, event, p, given):
+    if event == "result":
+        return send_result(c, r, event, given)
+    if event == "timer":
+        return hold_on(c, r, event)
+    if event == "Invoke RID":
+        c.meet(r.state, event, "HoldOnRepeated" if r.hold_on_sent else "Ignored", "hold-on sent" if r.hold_on_sent else "hold-on not sent")
+        c.sent = pdu(0x19, RESPONDER, r.tid) if r.hold_on_sent else b""
+        return None
+    return no_row(c, r, event)
+
+
+def r_result_resp_wait(c, r, event, p, given):
+    if event in ("Ack", "Ack RID"):
+        c.meet(r.state, event, "Confirmed")
+        c.show("confirm", r, (0,) + p.info if p.info else NO_DATA)
+        return r.free()
+    if event == "timer" and r.rcr < c.t.rcr_max:
+        c.meet(r.state, event, "ResultResent", "RCR < RCR_MAX")
+        c.sent = pdu(0x17, RESPONDER, r.tid, c.message(r))
+        r.rcr += 1
+        return c.start(r, c.t.rows[1][r.rcr])
+    if event == "timer":
+        c.meet(r.state, event, "GivenUp", "RCR = RCR_MAX")
+        return c.give_up(r)
+    return no_row(c, r, event)
+
+
+def r_wait_timeout(c, r, event, p, given):
+    if event in ("Invoke RID", "Tve RID"):
+        # the second is the row of 9.6 that document 01's bullets don't name: docs/DECISIONS.md, 19
+        c.meet(r.state, event, "InvokeSeenAgain" if event == "Invoke RID" else "TidokSeenAgain", "exit information" if r.exit else "")
+        c.sent = last_ack(r, 1)
+        return None
+    if event == "timer":
+        c.meet(r.state, event, "TimeoutEnds")
+        return r.free()
+    return no_row(c, r, event)
+
+
+def no_row(c, r, event):
+    """A primitive without a row gets 9, anything else is ignored."""
+    c.meet(r.state, event, "NotAllowed" if event in ("answer", "result") else "Ignored")
+    c.refusal = 9 if event in ("answer", "result") else 0
+
+
+def turn(c, r, event, p=None, given=b""):
+    """An event at a live record: the abort row of every state, then the state's own rows."""
+    unseen = r.state.startswith("RTidokWait")
+    if event == "abort":
+        c.meet(r.state, event, "NotAllowed" if unseen else "UserAborts")
+        if unseen:
+            c.refusal = 9
+            return
+        c.sent = pdu(0x21, r.role(), r.tid, given)
+        r.free()
+    elif event == "Abort":
+        c.meet(r.state, event, "PeerAbortsUnseen" if unseen else "PeerAborts", "user" if p.abort_type else "provider")
+        if not unseen:
+            c.show("abort", r, abort_type=p.abort_type, reason=p.fourth)
+        r.free()
+    elif event == "malformed":
+        c.meet(r.state, event, "MalformedUnseen" if unseen else "Malformed")
+        c.sent = pdu(0x20, r.role(), r.tid, [1])
+        if not unseen:
+            c.show("abort", r, reason=1)
+        r.free()
+    else:
+        rows = {"IResultWait": i_result_wait, "IResultRespWait": i_result_resp_wait, "IWaitTimeout": i_wait_timeout, "RTidokWait": r_tidok_wait,
+                "RInvokeRespWait": r_invoke_resp_wait, "RResultWait": r_result_wait, "RResultRespWait": r_result_resp_wait, "RWaitTimeout": r_wait_timeout}
+        rows[r.state.rstrip("12")](c, r, event, p, given)
+
+
+class Nowhere:
+    """What an indication without a record concerns."""
+
+    def __init__(self, peer, tid):
+        self.peer, self.tid = peer, tid
+
+    def role(self):
+        return RESPONDER
+
+
+def first_invoke(c, peer, p):
+    """An Invoke without a live record, well formed, top bit 0: the tests in order, the last decides."""
+    cls, up = p.fourth & 3, p.fourth >> 4 & 1
+    start, length = p.user
+
+    def met(row, test):
+        c.meet("Free", p.kind(), row)
+        reached.add(("first Invoke, class %d" % cls, test, ""))
+
+    for reason, test, row, fails in ((6, "a", "WrongVersion", p.fourth >> 6), (4, "b", "Unsupported", not p.ttr), (7, "c", "TooLong", length > 1024)):
+        if fails:
+            met("Ignored" if cls == 0 else row, test)
+            c.sent = b"" if cls == 0 else pdu(0x20, RESPONDER, p.tid, [reason])
+            return
+    r = c.t.lowest_free()
+    if cls == 0:
+        met("Shown0", "d" if r else "d, full table")
+        c.show("invoke", Nowhere(peer, p.tid), (0, start, length), 0, up)
+        return
+    if r is None:
+        return met("Ignored", "e")
+    last = c.t.last[peer]
+    valid = last >= 0 and 1 <= (p.tid - last) % 32768 <= 16383
+    r.peer, r.tid, r.up = peer, p.tid, up
+    if valid:
+        met("Valid%d" % cls, "f")
+        r.state, c.t.last[peer] = "RInvokeRespWait%d" % cls, p.tid
+        c.show("invoke", r, (0, start, length), cls, up)
+        c.start(r, c.t.a)
+    else:
+        met("ToVerify%d" % cls, "g, none cached" if last < 0 else "g, d = 0" if last == p.tid else "g, d over 16,383")
+        r.state = "RTidokWait%d" % cls
+        c.keep(r, c.lent[start:start + length])
+        c.sent = pdu(0x1C, RESPONDER, p.tid)
+
+
+def arrive(c, peer, s):
+    """A PDU: whom it names, then its row."""
+    c.lent = s
+    if len(s) < 3:
+        reached.add(("dispatch", "%d octets" % len(s), ""))
+        c.met = " {Nobody}"
+        return
+    typ, top, tid = s[0] >> 3 & 15, s[1] >> 7, s[1] << 8 & 32512 | s[2]
+    p = parse(s)
+    if (typ, top) in ((1, 1), (2, 0)):
+        reached.add(("dispatch", "Invoke with top bit 1" if typ == 1 else "Result with top bit 0", "well formed" if p else "malformed"))
+        met = any(c.t.named(role, peer, tid) for role in (INITIATOR, RESPONDER))
+        reached.add(("dispatch", "ignored direction", "live record" if met else "no record"))
+        c.met = " {Nobody}"
+        return
+    r = c.t.named(INITIATOR if top else RESPONDER, peer, tid)
+    event = p.kind() if p else "malformed"
+    if r:
+        return turn(c, r, event, p)
+    if p is None:
+        c.meet("Free", event, "Malformed" if typ == 1 else "Ignored", "Invoke" if typ == 1 else "TIDve" if s[0] >> 2 & 31 == 7 and top else "other")
+        c.sent = pdu(0x20, RESPONDER, tid, [1]) if typ == 1 else b""
+    elif event in ("Tve", "Tve RID") and top:
+        c.meet("Free", event, "UnknownTidve", "TIDve")
+        c.sent = pdu(0x20, INITIATOR, tid, [2])
+    elif typ == 1:
+        first_invoke(c, peer, p)
+    else:
+        c.meet("Free", event, "Ignored", "top bit %d" % top)
+
+
+# ---- the six calls: refusals lowest first, then the event
+
+class End:
+    """What one end's user lends to its calls, and the PDU that it sent last."""
+
+    def __init__(self):
+        self.records, self.octets, self.store, self.last = 1, bytearray(8464), bytearray(49 * CELL), b""
+
+
+NORMAL = [0, 0, 1100, 33, 32]
+CAPACITY = [8464, 49 * CELL, 1200, 40, 40]
+ends = [End(), End()]
+lend = [None] * 5
+settings = []
+
+
+def table_bytes(records):
+    return HEADER + RECORD * records if 1 <= records <= 48 else 0
+
+
+def lent(end, k):
+    """How much of table, store, output, answer or settings is lent."""
+    normal = table_bytes(end.records) if k == 0 else CELL * end.records if k == 1 else NORMAL[k]
+    return min(normal if lend[k] is None else lend[k], CAPACITY[k])
+
+
+def sizes_wrong(end):
+    n, rest = divmod(lent(end, 0) - HEADER, RECORD)
+    return rest != 0 or not 1 <= n <= 48 or lent(end, 1) != CELL * n or lent(end, 2) < 1028 or lent(end, 3) < 32
+
+
+def call(name, end, time, tests, event):
+    """One call. `tests` are the conditions of its other numbers on the table as it is; `event` is what it does if none holds."""
+    if sizes_wrong(end) or not well_formed(end.octets[:lent(end, 0)]):
+        reached.add((name, 1, "size" if sizes_wrong(end) else "form"))
+        return 1, None
+    t = Table(end.octets[:lent(end, 0)])
+    for n, condition in [(2, time < t.clock or time > BOUND)] + tests(t):
+        if condition:
+            reached.add((name, n, ""))
+            return n, None
+    c = Call(end, t, time)
+    t.clock = time
+    event(c)
+    if c.refusal:
+        reached.add((name, c.refusal, ""))
+        return c.refusal, c
+    end.octets[:lent(end, 0)] = t.octets()
+    if c.sent:
+        end.last = c.sent
+    reached.add((name, 0, ""))
+    return 0, c
+
+
+def request(end, time, peer, cls, up, octets):
+    def tests(t):
+        return [(3, peer > 255), (4, len(octets) > 1024), (5, cls > 2), (6, any(r.live() and r.role() == INITIATOR and r.tid == t.gen for r in t.records)),
+                (7, cls > 0 and t.lowest_free() is None)]
+
+    def event(c):
+        c.tid = c.t.gen
+        c.t.gen = (c.t.gen + 1) % 32768
+        c.meet("Free", "request", "Requested%d" % cls)
+        c.sent = invoke_pdu(c.tid, cls, up, 0, octets)
+        if cls:
+            r = c.t.lowest_free()
+            r.state, r.peer, r.tid, r.up = "IResultWait%d" % cls, peer, c.tid, up
+            c.keep(r, octets)
+            c.start(r, c.t.rows[cls - 1][0])
+    return call("request", end, time, tests, event)
+
+
+def primitive(name, end, time, role, peer, tid, given, too_long):
+    def tests(t):
+        r = t.named(role, peer, tid)
+        wrong_place = name == "answer" and given and r is not None and role == RESPONDER and r.cls() == 2
+        if wrong_place and peer < 256:
+            reached.add(("answer", 4, "class 2 responder in " + r.state))
+        return [(3, peer > 255), (4, len(given) > too_long or wrong_place), (8, r is None)]
+    return call(name, end, time, tests, lambda c: turn(c, c.t.named(role, peer, tid), name, None, given))
+
+
+def receive(end, time, peer, s):
+    return call("receive", end, time, lambda t: [(3, peer > 255), (11, not 1 <= len(s) <= 1500)], lambda c: arrive(c, peer, s))
+
+
+def timer(end, time):
+    def event(c):
+        due = [(r.deadline, k) for k, r in enumerate(c.t.records) if r.live() and 0 < r.deadline <= time]
+        if not due:
+            reached.add(("timer", "none due", ""))
+            c.met = " {NoneDue}"
+            return
+        reached.add(("timer", "fired", "a tie" if sum(d == min(due)[0] for d, _ in due) > 1 else "later ones due" if len(due) > 1 else "alone"))
+        r = c.t.records[min(due)[1]]
+        c.fired = (r.role(), r.peer, r.tid)
+        turn(c, r, "timer")
+    return call("timer", end, time, lambda t: [], event)
+
+
+def make_fresh(end, first):
+    words = (settings + [0] * 8)[:lent(end, 4)]
+    n, rest = divmod(lent(end, 0) - HEADER, RECORD)
+    if rest or not 1 <= n <= 48:
+        reached.add(("fresh", 1, ""))
+        return 1
+    good = (len(words) == 32 and words[0] <= 8 and words[1] <= 8 and all(1 <= x <= LONGEST for x in words[2:22]) and not any(words[22:])
+            and first <= 32767)
+    reached.add(("fresh", 0 if good else 10, ""))
+    if not good:
+        return 10
+    t = Table(bytes(table_bytes(n)))
+    t.gen, (t.rcr_max, t.aec_max, t.a, t.w), t.rows = first, words[:4], [words[4:13], words[13:22]]
+    end.octets[:lent(end, 0)] = t.octets()
+    return 0
+
+
+# ---- what the program prints
+
+def text_of(octets):
+    """Octets as digits; a run of four or more equal ones as the octet, a star, a number and a comma."""
+    out, i = "", 0
+    while i < len(octets):
+        n = 1
+        while i + n < len(octets) and octets[i + n] == octets[i]:
+            n += 1
+        out += "%02X" % octets[i] + ("*%d," % n if n >= 4 else "")
+        i += n if n >= 4 else 1
+    return out
+
+
+def outcome(n):
+    return ": ok" if n == 0 else ": refused %d" % n
+
+
+def shown_text(end, s, words):
+    kind, role, peer, tid = words[:4]
+    source, start, length = words[8:]
+    text = "; %s %s %d/%d" % (kind, ROLES[role], peer, tid)
+    text += "".join(" %s %d" % kv for kv in zip(("class", "up", "type", "reason"), words[4:8]) if kv[1])
+    if (source, start, length) == NO_DATA:
+        return text + " no data"
+    text += " %s %d+%d" % (("datagram", "store")[source], start, length)
+    return text + (" " + text_of((end.store if source else s)[start:start + length]) if length else "")
+
+
+def answer_text(end, result, s=b"", name=""):
+    n, c = result
+    text = outcome(n) + (c.met if c else "")
+    if n:
+        return text
+    if c.sent:
+        text += "; sent " + text_of(c.sent)
+    if c.tid is not None:
+        text += "; tid %d" % c.tid
+    if name == "timer":
+        text += "; fired %s %d/%d" % (ROLES[c.fired[0]], c.fired[1], c.fired[2]) if c.fired else "; none due"
+    return text + "".join(shown_text(end, s, w) for w in c.shown)
+
+
+def look_text(end):
+    t = Table(end.octets[:table_bytes(end.records)])
+    text = ": clock %d, next TID %d" % (t.clock, t.gen) + "".join(", last of %d is %d" % (p, x) for p, x in enumerate(t.last) if x >= 0)
+    for k, r in enumerate(t.records):
+        if r.live():
+            text += "; record %d %s %d/%d RCR %d AEC %d due %d length %d" % (k, r.state, r.peer, r.tid, r.rcr, r.aec, r.deadline, r.length)
+            text += "".join(" " + mark for mark, on in (("user-ack", r.up), ("HoldOn", r.held), ("TIDok-sent", r.tidok_sent), ("hold-on-sent", r.hold_on_sent)) if on)
+            text += " exit " + text_of(r.exit) if r.exit else ""
+    return text
+
+
+# ---- the commands of a scenario
+
+lines, expected, titles = [], [], []
+R, G = 0, 1  # the reader's end and the gateway's
+
+
+def add(line, shown, has=None):
+    lines.append(line)
+    expected.append(line + shown)
+    for part in [has] if isinstance(has, str) else has or []:
+        assert part in shown, "%r isn't in %r" % (part, line + shown)
+
+
+def title(text):
+    titles.append(text)
+    add("# %d. %s" % (len(titles), text), "")
+
+
+def octets(*parts):
+    return b"".join(bytes.fromhex(p) if isinstance(p, str) else bytes(p) for p in parts)
+
+
+def sets(**words):
+    """Settings: RCR_MAX 4, AEC_MAX 2, A 1,000, W 5,000, R 2,000 and 3,000 growing by 100, and what is named."""
+    settings[:] = [4, 2, 1000, 5000] + [2000 + 100 * k for k in range(9)] + [3000 + 100 * k for k in range(9)] + [0] * 10
+    for k, v in words.items():
+        settings[int(k[1:])] = v
+    add("set" + "".join(" %s=%d" % (k[1:], v) for k, v in words.items()), "")
+
+
+def fresh(e, records=2, first=7, has=": ok"):
+    ends[e].records = records
+    add("fresh %d %d %d" % (e, records, first), outcome(make_fresh(ends[e], first)), has)
+
+
+def lends(*sizes):
+    """How much is lent from now on of table, store, output, answer and settings; nothing: what is right."""
+    lend[:] = list(sizes) or [None] * 5
+    add("lend" + "".join(" %d" % x for x in sizes), "")
+
+
+def put(e, at, value):
+    was = ends[e].octets[at]
+    ends[e].octets[at] = value
+    add("put %d %d %d" % (e, at, value), ": was %d" % was)
+
+
+def req(e, time, peer, cls, up=0, d="", has=None):
+    d = octets(d)
+    add("req %d %d %d %d %d /%s" % (e, time, peer, cls, up, text_of(d)), answer_text(ends[e], request(ends[e], time, peer, cls, up, d)), has)
+
+
+def ans(e, time, role, peer, tid, x="", has=None):
+    x = octets(x)
+    add("ans %d %d %d %d %d /%s" % (e, time, role, peer, tid, text_of(x)), answer_text(ends[e], primitive("answer", ends[e], time, role, peer, tid, x, 128)), has)
+
+
+def res(e, time, role, peer, tid, d="", has=None):
+    d = octets(d)
+    add("res %d %d %d %d %d /%s" % (e, time, role, peer, tid, text_of(d)), answer_text(ends[e], primitive("result", ends[e], time, role, peer, tid, d, 1024)), has)
+
+
+def abo(e, time, role, peer, tid, reason, has=None):
+    add("abo %d %d %d %d %d %d" % (e, time, role, peer, tid, reason), answer_text(ends[e], primitive("abort", ends[e], time, role, peer, tid, bytes([reason]), 1)), has)
+
+
+def rcv(e, time, peer, *parts, has=None):
+    s = octets(*[p.replace(" ", "") if isinstance(p, str) else p for p in parts])
+    add("rcv %d %d %d /%s" % (e, time, peer, text_of(s)), answer_text(ends[e], receive(ends[e], time, peer, s), s), has)
+
+
+def get(e, time, peer, has=None):
+    """The PDU that the other end sent last."""
+    s = ends[1 - e].last
+    add("get %d %d %d" % (e, time, peer), answer_text(ends[e], receive(ends[e], time, peer, s), s), has)
+
+
+def tim(e, time, has=None):
+    add("tim %d %d" % (e, time), answer_text(ends[e], timer(ends[e], time), name="timer"), has)
+
+
+def look(e, has=None):
+    add("look %d" % e, look_text(ends[e]), has)
+
+
+def size(records, has):
+    add("bytes %d" % records, ": %d" % table_bytes(records), has)
+
+
+def pair(records=2, first=7, **words):
+    sets(**words)
+    fresh(R, records, first)
+    fresh(G, records, first)
+
+
+def edge(text):
+    """The edge case of the refusals that the line before shows."""
+    reached.add(("edge", text, ""))
+
+
+# ---- scenarios: whole transactions between the two ends
+
+def first_contact(cls, up=0, d="AABB", peer=5):
+    """Two fresh ends; a request that the gateway verifies, up to its user's indication."""
+    pair()
+    req(R, 100, peer, cls, up, d, has="; sent 0E0007%02X%s; tid 7" % (16 * up + cls, d))
+    get(G, 110, peer, has="ToVerify%d}; sent 1C8007" % cls)
+    get(R, 120, peer, has="TidokSent}; sent 1C0007")
+    get(G, 130, peer, has="; invoke responder %d/7 class %d" % (peer, cls))
+
+
+def transactions():
+    title("class 0: one Invoke, shown without a record; each copy is shown again")
+    pair()
+    req(R, 100, 5, 0, 0, "0102", has="; sent 0E0007000102; tid 7")
+    get(G, 110, 5, has="{Free Invoke Shown0}; invoke responder 5/7 datagram 4+2 0102")
+    get(G, 120, 5, has="{Free Invoke Shown0}")
+    look(R, has=": clock 100, next TID 8")
+    look(G)
+    title("class 0 with U/P and without data, with RID, and with an item before its data")
+    pair()
+    req(R, 100, 5, 0, 1, "", has="; sent 0E000710; tid 7")
+    get(G, 110, 5, has="; invoke responder 5/7 up 1 datagram 4+0")
+    rcv(G, 120, 5, "0F000700 55", has="; invoke responder 5/7 datagram 4+1 55")
+    rcv(G, 130, 5, "8E000700 0A1122 5566", has="datagram 7+2 5566")
+    title("class 1, first contact: verified, answered by the timer, confirmed")
+    first_contact(1)
+    tim(G, 1129, has="; none due")
+    tim(G, 1130, has="{RInvokeRespWait1 Timer InvokeAcked}; sent 188007; fired responder 5/7")
+    get(R, 1140, 5, has="{IResultWait1 PlainAck Confirmed}; confirm initiator 5/7 no data")
+    tim(G, 6130, has="{RWaitTimeout Timer TimeoutEnds}; fired responder 5/7")
+    look(R), look(G, has="last of 5 is 7")
+    title("class 1, second contact: a valid TID is shown at once; exit information of two bytes in a short item")
+    first_contact(1)
+    ans(G, 140, 1, 5, 7, has="{RInvokeRespWait1 UserAnswer InvokeAnswered}; sent 188007")
+    get(R, 150, 5, has="Confirmed}")
+    req(R, 160, 5, 1, 0, "11223344", has="; sent 0E00080111223344; tid 8")
+    get(G, 170, 5, has="{Free Invoke Valid1}; invoke responder 5/8 class 1 datagram 4+4 11223344")
+    ans(G, 180, 1, 5, 8, "AABB", has="; sent 9880080AAABB")
+    get(R, 190, 5, has="; confirm initiator 5/8 datagram 4+2 AABB")
+    look(R), look(G, has="record 1 RWaitTimeout 5/8 RCR 0 AEC 0 due 5180 length 0 exit AABB")
+    title("class 2 with hold-on: verified, hold-on, Result, last Ack with exit information AA BB")
+    first_contact(2)
+    tim(G, 1130, has="{RInvokeRespWait2 Timer HoldOnSent}; sent 188007")
+    get(R, 1140, 5, has="{IResultWait2 PlainAck HeldOn}; confirm initiator 5/7 no data")
+    tim(R, 90000, has="; none due")
+    look(R, has="IResultWait2 5/7 RCR 1 AEC 0 due 0 length 2 HoldOn TIDok-sent"), look(G, has="RResultWait 5/7 RCR 0 AEC 0 due 0 length 2 hold-on-sent")
+    res(G, 90000, 1, 5, 7, "0C0D0E", has="{RResultWait UserResult ResultSent}; sent 1680070C0D0E")
+    get(R, 90010, 5, has="{IResultWait2 Result ResultTaken}; result initiator 5/7 datagram 3+3 0C0D0E")
+    ans(R, 90020, 0, 5, 7, "AABB", has="{IResultRespWait UserAnswer ResultAnswered}; sent 9800070AAABB")
+    get(G, 90030, 5, has="{RResultRespWait PlainAck Confirmed}; confirm responder 5/7 datagram 4+2 AABB")
+    tim(R, 95020, has="TimeoutEnds}")
+    look(R), look(G)
+    title("class 2 without hold-on: the Result confirms the Invoke and is shown, in this order")
+    first_contact(2)
+    res(G, 140, 1, 5, 7, "0D", has="{RInvokeRespWait2 UserResult ResultSent}; sent 1680070D")
+    get(R, 150, 5, has="{IResultWait2 Result ResultConfirms}; confirm initiator 5/7 no data; result initiator 5/7 datagram 3+1 0D")
+    tim(R, 1150, has="{IResultRespWait Timer ResultAcked}; sent 180007; fired initiator 5/7")
+    get(G, 1160, 5, has="; confirm responder 5/7 no data")
+    title("class 2, the user answers and works on: timer A, hold-on, Result")
+    first_contact(2)
+    ans(G, 140, 1, 5, 7, has="{RInvokeRespWait2 UserAnswer UserWorks}")
+    look(G, has="RResultWait 5/7 RCR 0 AEC 0 due 1140")
+    tim(G, 1140, has="{RResultWait Timer HoldOnSent}; sent 188007")
+    get(R, 1150, 5, has="HeldOn}")
+    res(G, 1200, 1, 5, 7, "01", has="; sent 16800701")
+    get(R, 1210, 5, has="ResultTaken}; result initiator")
+    title("both ends in both roles at once, with the same peer and TID: role keeps them apart")
+    pair()
+    req(R, 100, 5, 1, 0, "A1"), req(G, 100, 5, 1, 0, "B2")
+    rcv(R, 110, 5, "0E000701B2", has="; sent 1C8007"), rcv(G, 110, 5, "0E000701A1", has="; sent 1C8007")
+    get(R, 120, 5, has="{IResultWait1 TidAck TidokSent}; sent 1C0007")
+    get(G, 130, 5, has="{RTidokWait1 TidAck Verified1}; invoke responder 5/7 class 1 store 1024+1 A1")
+    look(G, has=["record 0 IResultWait1 5/7", "record 1 RInvokeRespWait1 5/7"])
+    ans(G, 140, 1, 5, 7, "01", has="; sent 98800709"), ans(G, 150, 0, 5, 7, "01", has="refused 9")
+
+
+def user_acknowledgement():
+    title("user acknowledgement, class 1: AEC counts to AEC_MAX 2, then Abort 8 and an abort")
+    first_contact(1, up=1)
+    for k, time in enumerate((1130, 2130)):
+        tim(G, time, has="{RInvokeRespWait1 Timer UserAwaited}; fired responder 5/7")
+        look(G, has="AEC %d due %d" % (k + 1, time + 1000))
+    tim(G, 3130, has="{RInvokeRespWait1 Timer UserSilent}; sent 20800708; fired responder 5/7; abort responder 5/7 reason 8 no data")
+    get(R, 3140, 5, has="{IResultWait1 ReceivedAbort PeerAborts}; abort initiator 5/7 reason 8 no data")
+    look(R), look(G)
+    title("user acknowledgement, class 2, both ends: the users answer in time")
+    first_contact(2, up=1)
+    tim(G, 1130, has="{RInvokeRespWait2 Timer UserAwaited}")
+    ans(G, 1200, 1, 5, 7, has="UserWorks}")
+    res(G, 1300, 1, 5, 7, "77", has="; sent 16800777")
+    get(R, 1310, 5, has="ResultConfirms}")
+    tim(R, 2310, has="{IResultRespWait Timer UserAwaited}; fired initiator 5/7")
+    ans(R, 2400, 0, 5, 7, has="; sent 180007")
+    get(G, 2410, 5, has="Confirmed}")
+    title("user acknowledgement, class 2: the initiator's user stays silent")
+    first_contact(2, up=1)
+    res(G, 140, 1, 5, 7, "77")
+    get(R, 150, 5)
+    tim(R, 1150, has="UserAwaited}"), tim(R, 2150, has="UserAwaited}")
+    tim(R, 3150, has="{IResultRespWait Timer UserSilent}; sent 20000708; fired initiator 5/7; abort initiator 5/7 reason 8 no data")
+    get(G, 3160, 5, has="{RResultRespWait ReceivedAbort PeerAborts}; abort responder 5/7 reason 8")
+    title("user acknowledgement with AEC_MAX 0: the first expiry aborts; class 2 responder")
+    pair(_1=0)
+    rcv(G, 10, 5, "0E000712"), rcv(G, 20, 5, "1C0007", has="class 2 up 1 store 0+0")
+    tim(G, 1020, has="{RInvokeRespWait2 Timer UserSilent}; sent 20800708")
+    title("U/P of the Invoke decides, not that of its repeats; it is kept over verification")
+    pair()
+    rcv(G, 10, 5, "0E000711 AA"), rcv(G, 20, 5, "0F000701 AA", has="TidveRepeated}"), rcv(G, 30, 5, "1C0007", has="class 1 up 1 store 0+1 AA")
+    tim(G, 1030, has="UserAwaited}")
+    title("AEC is 0 again at a Result: the count of one wait is not carried to another")
+    pair()
+    put(R, 11, 8)
+    req(R, 10, 5, 2, 1, ""), put(R, 624 + 5, 8), rcv(R, 20, 5, "168007", has="ResultConfirms}"), look(R, has="AEC 0 due 1020")
+
+
+def exit_information():
+    title("exit information of 3, 4 and 128 bytes, and repeated Acks with it; 129 gives 4")
+    for n, item in ((3, "0B"), (4, "0C04"), (128, "0C80")):
+        pair()
+        rcv(G, 10, 5, "0E000701"), rcv(G, 20, 5, "1C0007")
+        ans(G, 30, 1, 5, 7, octets([0x61] * 129).hex(), has="refused 4")
+        ans(G, 30, 1, 5, 7, octets([0x61] * n).hex(), has="; sent 988007" + item + "61")
+        rcv(G, 40, 5, "0F000701", has="{RWaitTimeout InvokeRid InvokeSeenAgain}; sent 998007" + item + "61")
+    title("exit information from the initiator, repeated with the last Ack")
+    pair()
+    req(R, 10, 5, 2), rcv(R, 20, 5, "168007 01"), ans(R, 30, 0, 5, 7, "A1A2A3A4", has="; sent 9800070C04A1A2A3A4")
+    rcv(R, 40, 5, "178007 01", has="{IWaitTimeout ResultRid ResultSeenAgain}; sent 9900070C04A1A2A3A4"), look(R, has="due 5030 length 0 exit A1A2A3A4")
+    title("a confirmation shows the first Info item of its Ack, also an empty one; other items are passed over")
+    for text, has in (("988007 0A1122", "datagram 4+2 1122"), ("988007 9155 0A1122", "datagram 6+2 1122"), ("988007 8911 0A2233", "datagram 4+1 11"),
+                      ("988007 88 0A2233", "datagram 4+0"), ("988007 1155", "no data"), ("988007 0C02 AABB", "datagram 5+2 AABB")):
+        pair()
+        req(R, 10, 5, 1), rcv(R, 20, 5, text, has="; confirm initiator 5/7 " + has)
+    title("255 bytes of exit information are shown; the bound of 128 is for sending")
+    pair()
+    req(R, 10, 5, 2), rcv(R, 20, 5, "988007 0CFF", [0x41] * 255, has="; confirm initiator 5/7 datagram 5+255 41*255,")
+    title("an Info item of a Result is not shown with the confirmation that it causes")
+    pair()
+    req(R, 10, 5, 2), rcv(R, 20, 5, "968007 0A1122 33", has="; confirm initiator 5/7 no data; result initiator 5/7 datagram 6+1 33")
+
+
+def resending():
+    title("a request resent to RCR_MAX 4 with its own intervals, then given up")
+    pair()
+    req(R, 100, 5, 1, 0, "AABB")
+    due = 2100
+    for k in range(1, 5):
+        tim(R, due - 1, has="; none due")
+        tim(R, due, has="{IResultWait1 Timer Resent}; sent 0F000701AABB; fired initiator 5/7")
+        due += 2000 + 100 * k
+        look(R, has="RCR %d AEC 0 due %d" % (k, due))
+    tim(R, due, has="{IResultWait1 Timer GivenUp}; fired initiator 5/7; abort initiator 5/7 reason 8 no data")
+    look(R)
+    title("the same for class 2, whose intervals are the other row; a late call fires once and counts from its own time")
+    pair()
+    req(R, 100, 5, 2, 1, "AABB")
+    tim(R, 3099, has="; none due"), tim(R, 50000, has="{IResultWait2 Timer Resent}; sent 0F000712AABB"), look(R, has="RCR 1 AEC 0 due 53100")
+    tim(R, 50000, has="; none due")
+    title("a Result resent to RCR_MAX 4, then given up")
+    pair()
+    rcv(G, 10, 5, "0E000702"), rcv(G, 20, 5, "1C0007"), res(G, 100, 1, 5, 7, "DD")
+    due = 3100
+    for k in range(1, 5):
+        tim(G, due, has="{RResultRespWait Timer ResultResent}; sent 178007DD")
+        due += 3000 + 100 * k
+    tim(G, due, has="{RResultRespWait Timer GivenUp}; fired responder 5/7; abort responder 5/7 reason 8 no data")
+    title("RCR_MAX 0 sends one Invoke")
+    pair(_0=0)
+    req(R, 100, 5, 2, 0, "AABB", has="; sent 0E000702AABB")
+    tim(R, 3100, has="{IResultWait2 Timer GivenUp}; fired initiator 5/7; abort initiator 5/7 reason 8 no data")
+    title("RCR_MAX 0: a TIDve is not answered, so that first contact never succeeds; a running timer runs on")
+    pair(_0=0)
+    req(R, 100, 5, 1), get(G, 110, 5, has="; sent 1C8007"), get(R, 120, 5, has="{IResultWait1 TidAck Ignored}"), look(R, has="RCR 0 AEC 0 due 2100")
+    tim(R, 2100, has="GivenUp}")
+    title("RCR_MAX 0: one Result")
+    pair(_0=0)
+    rcv(G, 10, 5, "0E000702"), rcv(G, 20, 5, "1C0007"), res(G, 30, 1, 5, 7, "DD", has="; sent 168007DD"), tim(G, 3030, has="GivenUp}; fired responder 5/7; abort")
+    title("RCR_MAX 8: the ninth interval of a row is used")
+    pair(_0=8, _12=86400000)
+    req(R, 0, 5, 1)
+    for k in range(8):
+        tim(R, 100000 * (k + 1), has="Resent}")
+    look(R, has="RCR 8 AEC 0 due 87200000"), tim(R, 87199999, has="; none due"), tim(R, 87200000, has="GivenUp}")
+    title("a TIDok is counted in RCR and, once sent, is what the timer resends, with RID; the first has none even after resent Invokes")
+    pair(_0=3)
+    req(R, 100, 5, 1, 0, "AABB"), tim(R, 2100, has="; sent 0F000701AABB")
+    rcv(R, 2200, 5, "1C8007", has="TidokSent}; sent 1C0007"), look(R, has="RCR 2 AEC 0 due 4400 length 2 TIDok-sent")
+    tim(R, 4400, has="{IResultWait1 Timer Resent}; sent 1D0007"), rcv(R, 4500, 5, "1D8007", has="{IResultWait1 TidAckRid Ignored}")
+    look(R, has="RCR 3 AEC 0 due 6700"), tim(R, 6700, has="GivenUp}")
+    title("TIDve while held on: TIDok, RCR + 1, and the timer runs again; a later Ack doesn't stop it")
+    pair(_0=2)
+    req(R, 100, 5, 2), rcv(R, 200, 5, "188007", has="HeldOn}"), look(R, has="due 0 length 0 HoldOn")
+    rcv(R, 300, 5, "1C8007", has="{IResultWait2 TidAck TidokSent}; sent 1C0007"), look(R, has="RCR 1 AEC 0 due 3400 length 0 HoldOn TIDok-sent")
+    rcv(R, 400, 5, "188007", has="{IResultWait2 PlainAck Ignored}"), look(R, has="due 3400")
+    tim(R, 3400, has="; sent 1D0007"), tim(R, 6600, has="GivenUp}; fired initiator 5/7; abort initiator 5/7 reason 8")
+
+
+# ---- TIDs and verification
+
+def cached(last, peer=5, e=G):
+    """A table whose LastTID of the peer is this: the header's octets of docs/TABLE.md."""
+    pair()
+    put(e, 112 + 2 * peer, (last + 1) % 256)
+    put(e, 113 + 2 * peer, (last + 1) // 256)
+
+
+def tids():
+    title("GenTID counts 32,767 -> 0, for class 0 too; a refused request doesn't count")
+    pair(first=32766)
+    req(R, 10, 5, 0, has="; sent 0E7FFE00; tid 32766"), req(R, 20, 5, 1, has="; sent 0E7FFF01; tid 32767"), look(R, has="next TID 0;")
+    req(R, 30, 5, 3, has="refused 5"), look(R, has=": clock 20, next TID 0;")
+    req(R, 30, 5, 2, has="; sent 0E000002; tid 0"), req(R, 40, 5, 2, has="refused 7"), look(R, has=": clock 30, next TID 1;")
+    title("LastTID 32,767, TID 0: valid; LastTID is then 0")
+    cached(32767)
+    rcv(G, 10, 5, "0E000002 AB", has="{Free Invoke Valid2}; invoke responder 5/0 class 2 datagram 4+1 AB"), look(G, has="last of 5 is 0;")
+    title("LastTID 0: 16,383 valid")
+    cached(0)
+    rcv(G, 10, 5, "0E3FFF01", has="{Free Invoke Valid1}; invoke responder 5/16383"), look(G, has="last of 5 is 16383;")
+    title("LastTID 0: 16,384 verified; verified, it doesn't become LastTID, since one is cached")
+    cached(0)
+    rcv(G, 10, 5, "0E400001 AA", has="{Free Invoke ToVerify1}; sent 1CC000"), look(G, has="last of 5 is 0;")
+    rcv(G, 20, 5, "1C4000", has="Verified1}; invoke responder 5/16384 class 1 store 0+1 AA"), look(G, has="last of 5 is 0;")
+    title("the same TID again, after its record ended, is verified: distance 0; so is one behind")
+    cached(9)
+    rcv(G, 10, 5, "0E000902", has="{Free Invoke ToVerify2}; sent 1C8009"), rcv(G, 20, 5, "0E000802", has="{Free Invoke ToVerify2}; sent 1C8008")
+    title("LastTID is kept for each peer; the highest and the lowest peer")
+    pair()
+    for peer in (0, 255):
+        rcv(G, 30, peer, "0E000901", has="ToVerify1}"), rcv(G, 30, peer, "1C0009", has="Verified1}; invoke responder %d/9" % peer)
+        abo(G, 30, 1, peer, 9, 0, has="; sent 21800900")
+    look(G, has=", last of 0 is 9, last of 255 is 9")
+    title("two verifications in flight: the first that is finished sets LastTID, the second doesn't")
+    pair()
+    rcv(G, 10, 5, "0E000901"), rcv(G, 20, 5, "0E000A02")
+    look(G, has=": clock 20, next TID 7; record 0 RTidokWait1 5/9 RCR 0 AEC 0 due 0 length 0; record 1 RTidokWait2 5/10")
+    rcv(G, 30, 5, "1D000A", has="{RTidokWait2 TidAckRid Verified2}; invoke responder 5/10"), look(G, has="last of 5 is 10;")
+    rcv(G, 40, 5, "1C0009", has="{RTidokWait1 TidAck Verified1}; invoke responder 5/9"), look(G, has="last of 5 is 10;")
+    title("TIDnew is read without effect: a valid TID stays valid, LastTID stays")
+    cached(6)
+    rcv(G, 10, 5, "0E000721", has="{Free Invoke Valid1}"), rcv(G, 20, 5, "0E000621", has="{Free Invoke ToVerify1}"), look(G, has="last of 5 is 7;")
+    title("a valid Invoke writes no cell: the message is shown from the datagram; to be verified, it is kept and shown from the store")
+    cached(6)
+    rcv(G, 10, 5, "0E000702 A1A2", has="datagram 4+2 A1A2"), look(G, has="due 1010 length 0")
+    rcv(G, 20, 5, "8E000502 0A1122 B1B2", has="; sent 1C8005"), rcv(G, 30, 5, "1C0005", has="store 1024+2 B1B2")
+    title("TIDve 1C 80 05 unmatched gives 20 00 05 02, with RID too; a live responder record of that TID doesn't match")
+    pair()
+    rcv(R, 10, 5, "1C8005", has="{Free TidAck UnknownTidve}; sent 20000502"), rcv(R, 20, 5, "1D8005", has="; sent 20000502")
+    rcv(R, 30, 5, "0E000501", has="ToVerify1}"), rcv(R, 40, 5, "1C8005", has="UnknownTidve}; sent 20000502")
+    req(R, 50, 5, 1), rcv(R, 60, 6, "1C8007", has="UnknownTidve}; sent 20000702")
+    title("TIDve for a record in another state than RESULT WAIT is ignored, not answered with Abort 2")
+    pair()
+    req(R, 10, 5, 2), rcv(R, 20, 5, "168007"), rcv(R, 30, 5, "1C8007", has="{IResultRespWait TidAck Ignored}")
+
+
+def openings():
+    title("a first Invoke of class 1 and 2: version, then TTR, then data over 1,024")
+    for cls in (1, 2):
+        cached(6)
+        rcv(G, 10, 5, "0E00074%d" % cls, has="{Free Invoke WrongVersion}; sent 20800706"), rcv(G, 20, 5, "0C00078%d" % cls, [1] * 1025, has="; sent 20800706")
+        rcv(G, 30, 5, "0C00070%d" % cls, [1] * 1025, has="{Free Invoke Unsupported}; sent 20800704"), rcv(G, 40, 5, "090007C%d" % cls, has="; sent 20800706")
+        rcv(G, 50, 5, "0E00070%d" % cls, [1] * 1025, has="{Free Invoke TooLong}; sent 20800707")
+        rcv(G, 60, 5, "0A00070%d" % cls, [1] * 1024, has="{Free Invoke Valid%d}; invoke responder 5/7 class %d datagram 4+1024 01*1024," % (cls, cls))
+        look(G, has=": clock 60, next TID 7, last of 5 is 7;")
+    title("class 0 that fails version, TTR or length is ignored; 1,024 bytes are shown")
+    pair()
+    rcv(G, 10, 5, "0E000740", has="{Free Invoke Ignored}"), rcv(G, 20, 5, "0C000700", has="{Free Invoke Ignored}"), rcv(G, 30, 5, "0E000700", [1] * 1025, has="Ignored}")
+    rcv(G, 40, 5, "0E000700", [1] * 1024, has="Shown0}; invoke responder 5/7 datagram 4+1024 01*1024,")
+    title("1,024 bytes to be verified are kept whole and shown from the store")
+    pair()
+    rcv(G, 10, 5, "0E000701", [9] * 1024, has="; sent 1C8007"), rcv(G, 20, 5, "1C0007", has="store 0+1024 09*1024,")
+    title("a full table: class 0 is shown; a first Invoke of class 1 or 2 is ignored, valid or not, and LastTID stays; its other tests are still answered")
+    pair(records=1)
+    put(G, 112 + 10, 9)
+    rcv(G, 10, 5, "0E000901", has="Valid1}")
+    rcv(G, 20, 5, "0E000A00 11", has="Shown0}; invoke responder 5/10 datagram 4+1 11"), rcv(G, 30, 5, "0E000A01", has="{Free Invoke Ignored}"), rcv(G, 40, 6, "0E000A02", has="{Free Invoke Ignored}")
+    rcv(G, 50, 5, "0E000A41", has="; sent 20800A06"), rcv(G, 60, 5, "0C000A02", has="; sent 20800A04"), rcv(G, 70, 5, "0E000A02", [1] * 1025, has="; sent 20800A07"), rcv(G, 80, 5, "0E000A03", has="; sent 20800A01")
+    look(G, has=": clock 80, next TID 7, last of 5 is 9; record 0 RInvokeRespWait1 5/9")
+    title("a first Invoke with RID is opened like any other")
+    cached(6)
+    rcv(G, 10, 5, "0F000701", has="{Free InvokeRid Valid1}; invoke"), rcv(G, 20, 6, "0F000702", has="{Free InvokeRid ToVerify2}; sent 1C8007")
+    title("48 records and no 49th; an ended record is used again, the lowest first")
+    sets()
+    fresh(R, 48, 7)
+    for k in range(48):
+        req(R, 10, k, 1 + k % 2, 0, "%02X" % k, has="; tid %d" % (7 + k))
+    req(R, 20, 5, 1, has="refused 7"), req(R, 20, 5, 2, has="refused 7"), req(R, 20, 5, 0, has="; tid 55")
+    abo(R, 30, 0, 41, 48, 1, has="; sent 21003001"), abo(R, 30, 0, 3, 10, 1, has="; sent 21000A01")
+    req(R, 40, 200, 1, 0, "EE", has="; tid 56"), tim(R, 3040, has="fired initiator 0/7"), look(R, has=["record 3 IResultWait1 200/56", "record 47 IResultWait2 47/54"])
+    title("data 1,024 accepted, sent whole and resent from the store; 1,025 gives 4")
+    pair()
+    req(R, 10, 5, 1, 0, ("5A" * 1025), has="refused 4"), req(R, 10, 5, 0, 0, ("5A" * 1025), has="refused 4")
+    req(R, 10, 5, 1, 0, ("5A" * 1024), has="; sent 0E0007015A*1024,; tid 7"), tim(R, 2010, has="; sent 0F0007015A*1024,")
+    get(G, 10, 5, has="; sent 1C8007"), rcv(G, 20, 5, "1C0007", has="store 0+1024 5A*1024,")
+    title("a result of 1,024 bytes is sent and resent; 1,025 gives 4")
+    pair()
+    rcv(G, 10, 5, "0E000702"), rcv(G, 20, 5, "1C0007"), res(G, 30, 1, 5, 7, "C3" * 1025, has="refused 4"), res(G, 30, 1, 5, 7, "C3" * 1024, has="; sent 168007C3*1024,")
+    tim(G, 3030, has="; sent 178007C3*1024,"), get(R, 10, 5, has="{Free ResultRid Ignored}")
+    title("a Result of more than 1,024 bytes is taken and shown whole, to 1,497; 1,501 octets give 11")
+    for n in (1025, 1497):
+        pair()
+        req(R, 10, 5, 2), rcv(R, 20, 5, "168007", [7] * n, has="; result initiator 5/7 datagram 3+%d 07*%d," % (n, n))
+    rcv(R, 30, 5, "168007", [7] * 1498, has="refused 11")
+
+
+def malformed():
+    title("malformed PDUs with a live record: Abort 1 and an abort, for each way of being malformed")
+    for text in ("008007", "408007", "208007", "188007 00", "988007", "988007 0A11", "228007 01", "308007", "388007 01", "A88007"):
+        pair()
+        req(R, 10, 5, 2), rcv(R, 20, 5, text, has="{IResultWait2 MalformedPdu Malformed}; sent 20000701; abort initiator 5/7 reason 1 no data")
+    pair()
+    req(R, 10, 5, 2), rcv(R, 20, 5, "968007", [0x88] * 16, has="; sent 20000701; abort initiator 5/7 reason 1")
+    title("malformed Invokes with a live responder record: class 3, cut header")
+    for text in ("0E000703", "0E0007"):
+        cached(6)
+        rcv(G, 10, 5, "0E000702"), rcv(G, 20, 5, text, has="{RInvokeRespWait2 MalformedPdu Malformed}; sent 20800701; abort responder 5/7 reason 1 no data")
+    title("malformed in TIDOK WAIT: Abort 1, and the user learns nothing")
+    pair()
+    rcv(G, 10, 5, "0E000702"), rcv(G, 20, 5, "180007 00", has="{RTidokWait2 MalformedPdu MalformedUnseen}; sent 20800701"), look(G, has=": clock 20, next TID 7")
+    title("malformed without a record: Abort 1 only for an Invoke of three octets or more with top bit 0; class 0 and a full table too")
+    pair(records=1)
+    for text in ("0E0007", "0E000703", "8E000700", "8E000702 0A11"):
+        rcv(G, 10, 5, text, has="{Free MalformedPdu Malformed}; sent 20800701")
+    for text in ("000005", "788005", "188005 00", "1C8005 00", "1C0005 00", "200005", "228005 01", "300005", "380005 02 01", "A88005"):
+        rcv(G, 20, 5, text, has="{Free MalformedPdu Ignored}")
+    for text in ("0E", "0E00", "00", "FFFF"):
+        rcv(G, 30, 5, text, has="{Nobody}")
+    look(G, has=": clock 30, next TID 7")
+    title("a PDU of one or two octets names no record, malformed as it is")
+    pair()
+    req(R, 10, 5, 1, has="; tid 7"), rcv(R, 20, 5, "18"), rcv(R, 30, 5, "1880"), look(R, has=": clock 30, next TID 8; record 0 IResultWait1 5/7")
+    title("the wrong direction is ignored before any test, malformed or not, with a live record or without")
+    pair()
+    req(R, 10, 5, 2), rcv(R, 20, 5, "0E0007 01"), look(R, has="record 1 RTidokWait1 5/7")
+    for text in ("0E800701", "0E8007", "0E800703", "160007", "960007", "0E800901", "0E8009", "160009", "960009"):
+        rcv(R, 30, 5, text, has=": ok {Nobody}")
+    look(R, has=["record 0 IResultWait2 5/7", "record 1 RTidokWait1 5/7"])
+    title("Segmented PDUs of the wrong direction: ignored where well formed; malformed, they abort the record that they name")
+    pair()
+    req(R, 10, 5, 2), rcv(R, 20, 5, "2E800701 AA", has="{IResultWait2 Segmented Ignored}"), rcv(R, 30, 5, "2E8007", has="{IResultWait2 MalformedPdu Malformed}; sent 20000701")
+    rcv(G, 10, 5, "0E000702"), rcv(G, 20, 5, "36000701 AA", has="{RTidokWait2 Segmented Ignored}"), rcv(G, 30, 5, "360007", has="MalformedUnseen}; sent 20800701")
+    title("all else without a record is ignored, and its time is stored")
+    pair()
+    for text in ("188005", "198005", "180005", "190005", "1C0005", "1D0005", "208005 08", "200005 08", "218005 08", "168005", "178005", "148005", "158005",
+                 "2E000501", "2E800501", "36000501", "36800501", "38000500", "38800500"):
+        rcv(G, 50, 5, text, has=" Ignored}")
+    look(G, has=": clock 50, next TID 7")
+
+
+# ---- every event in every state
+
+def reach(state, up=0, exit_info=""):
+    """Peer 5, TID 7 in this state, with a message AA BB; initiator at the reader, responder at the gateway. Gives the end and its role."""
+    pair()
+    cls = CLASS.get(state, 2)
+    if state[0] == "I":
+        req(R, 100, 5, cls, up, "AABB")
+        if state not in ("IResultWait1", "IResultWait2"):
+            rcv(R, 200, 5, "168007 CC")
+        if state == "IWaitTimeout":
+            ans(R, 300, 0, 5, 7, exit_info)
+        return R, 0
+    rcv(G, 100, 5, "0E0007%X%d AABB" % (up, cls))
+    if not state.startswith("RTidokWait"):
+        rcv(G, 200, 5, "1C0007")
+    if state == "RResultWait":
+        ans(G, 300, 1, 5, 7)
+    if state == "RResultRespWait":
+        res(G, 300, 1, 5, 7, "DDEE")
+    if state == "RWaitTimeout":
+        ans(G, 300, 1, 5, 7, exit_info)
+    return G, 1
+
+
+def ignored_in(state, texts, primitives):
+    e, role = reach(state)
+    look(e)
+    top = "80" if role == 0 else "00"
+    for text in texts:
+        rcv(e, 400, 5, text.replace("t", top), has=["{%s " % state, " Ignored}"])
+    if "answer" in primitives:
+        ans(e, 400, role, 5, 7, has="refused 9 {%s UserAnswer NotAllowed}" % state)
+    if "result" in primitives:
+        res(e, 400, role, 5, 7, "01", has="refused 9 {%s UserResult NotAllowed}" % state)
+    if "abort" in primitives:
+        abo(e, 400, role, 5, 7, 1, has="refused 9 {%s UserAbort NotAllowed}" % state)
+    look(e)
+
+
+SEGMENTED = ["2Et0701", "36t0701", "38t0700"]
+ACKS, TVES = ["18t07", "19t07"], ["1Ct07", "1Dt07"]
+RESULTS, CUTS = ["16t07", "17t07"], ["14t07", "15t07"]
+INVOKES = ["0Et0701", "0Ft0702"]
+
+
+def in_every_state():
+    title("what has no row is ignored, and primitives without one get 9: initiator RESULT WAIT, class 1")
+    ignored_in("IResultWait1", RESULTS + CUTS + SEGMENTED, ["answer", "result"])
+    title("the same, class 2")
+    ignored_in("IResultWait2", SEGMENTED, ["answer", "result"])
+    title("the same in RESULT RESP WAIT of the initiator: any Result and any Ack is ignored")
+    ignored_in("IResultRespWait", RESULTS + CUTS + ACKS + TVES + SEGMENTED, ["result"])
+    title("the same in WAIT TIMEOUT of the initiator; a Result without RID is not acknowledged again")
+    ignored_in("IWaitTimeout", RESULTS[:1] + CUTS[:1] + ACKS + TVES + SEGMENTED, ["answer", "result"])
+    for cls in "12":
+        title("the same in TIDOK WAIT, class %s: the RID-clear copy of an Invoke and a plain Ack do nothing; no primitive is allowed" % cls)
+        ignored_in("RTidokWait" + cls, INVOKES[:1] + ["0Et0700", "0Et0742"] + ACKS + SEGMENTED, ["answer", "result", "abort"])
+    title("the same in INVOKE RESP WAIT, class 1: copies of the Invoke don't start timer A again; a result has no row")
+    ignored_in("RInvokeRespWait1", INVOKES + ACKS + TVES + SEGMENTED, ["result"])
+    title("the same in INVOKE RESP WAIT, class 2")
+    ignored_in("RInvokeRespWait2", INVOKES + ACKS + TVES + SEGMENTED, [])
+    title("the same in RESULT WAIT of the responder, hold-on not sent: a repeated Invoke is not answered")
+    ignored_in("RResultWait", INVOKES + ACKS + TVES + SEGMENTED, ["answer"])
+    title("the same in RESULT RESP WAIT of the responder: a TIDok is no plain Ack")
+    ignored_in("RResultRespWait", INVOKES + TVES + SEGMENTED, ["answer", "result"])
+    title("the same in WAIT TIMEOUT of the responder")
+    ignored_in("RWaitTimeout", INVOKES[:1] + ACKS + TVES[:1] + SEGMENTED, ["answer", "result"])
+    for state in STATES[1:]:
+        title("abort row in %s: Abort of the provider, Abort of the user, malformed PDU, user abort" % state)
+        seen = not state.startswith("RTidokWait")
+        e, role = reach(state)
+        top, sent = ("80", "00") if role == 0 else ("00", "80")
+        rcv(e, 400, 5, "20%s07 05" % top, has="; abort %s 5/7 reason 5 no data" % ROLES[role] if seen else "PeerAbortsUnseen}")
+        look(e)
+        reach(state)
+        rcv(e, 400, 5, "21%s07 C8" % top, has="; abort %s 5/7 type 1 reason 200 no data" % ROLES[role] if seen else "PeerAbortsUnseen}")
+        reach(state)
+        rcv(e, 400, 5, "18%s07 00" % top, has="; sent 20%s0701" % sent + ("; abort %s 5/7 reason 1 no data" % ROLES[role] if seen else ""))
+        reach(state)
+        abo(e, 400, role, 5, 7, 255, has="{%s UserAbort UserAborts}; sent 21%s07FF" % (state, sent) if seen else "refused 9")
+        look(e)
+
+
+def acting_rows():
+    title("initiator RESULT WAIT, each class: TIDve with RID clear and set, first and again, to RCR_MAX")
+    for cls in (1, 2):
+        pair(_0=2)
+        req(R, 10, 5, cls), rcv(R, 20, 5, "1C8007", has="; sent 1C0007"), rcv(R, 30, 5, "1C8007", has="; sent 1D0007"), rcv(R, 40, 5, "1C8007", has=" Ignored}"), rcv(R, 50, 5, "1D8007", has=" Ignored}")
+        pair(_0=3)
+        req(R, 10, 5, cls), rcv(R, 20, 5, "1D8007", has="; sent 1C0007"), rcv(R, 30, 5, "1D8007", has="; sent 1D0007"), tim(R, 9000, has="; sent 1D0007"), tim(R, 19000, has="GivenUp}")
+    title("initiator RESULT WAIT: plain Ack with RID, first and again, class 1 and 2")
+    pair()
+    req(R, 10, 5, 1), rcv(R, 20, 5, "198007", has="Confirmed}; confirm initiator 5/7"), look(R)
+    req(R, 30, 5, 2), rcv(R, 40, 5, "198008", has="HeldOn}; confirm initiator 5/8"), rcv(R, 50, 5, "198008", has="Ignored}"), rcv(R, 60, 5, "188008", has="Ignored}")
+    title("initiator RESULT WAIT, class 2: a Result with RID, held on or not; GTR doesn't matter; TTR clear gives Abort 4")
+    for text, has in (("178007 01", "ResultConfirms}; confirm"), ("128007 01", "ResultConfirms}; confirm"), ("148007 01", "{IResultWait2 ResultCut ResultUnsupported}; sent 20000704; abort initiator 5/7 reason 4 no data"),
+                      ("118007", "{IResultWait2 ResultCutRid ResultUnsupported}; sent 20000704; abort")):
+        pair()
+        req(R, 10, 5, 2), rcv(R, 20, 5, text, has=has), look(R)
+    for text in ("168007 01", "178007 01"):
+        pair()
+        req(R, 10, 5, 2), rcv(R, 20, 5, "188007"), rcv(R, 30, 5, text, has="ResultTaken}; result initiator 5/7 datagram 3+1 01")
+    title("WAIT TIMEOUT of the initiator: a Result with RID is acknowledged again without exit information, TTR clear too, and the timer runs on")
+    e, _ = reach("IWaitTimeout")
+    rcv(e, 400, 5, "178007", has="; sent 190007"), rcv(e, 500, 5, "158007", has="ResultSeenAgain}; sent 190007"), look(e, has="due 5300"), tim(e, 5299, has="none due"), tim(e, 5300, has="TimeoutEnds}")
+    e, _ = reach("IWaitTimeout", exit_info="A1")
+    rcv(e, 400, 5, "178007", has="; sent 99000709A1"), rcv(e, 500, 5, "158007", has="; sent 99000709A1")
+    title("TIDOK WAIT: an Invoke with RID is answered with TIDve again, whatever else it says, class 0 too; TIDok with RID verifies as well")
+    for cls in (1, 2):
+        e, _ = reach("RTidokWait%d" % cls)
+        for text in ("0F000701", "0F000702 CCDD", "0F000740", "09000700"):
+            rcv(e, 400, 5, text, has="TidveRepeated}; sent 1D8007")
+        rcv(e, 500, 5, "1D0007", has="Verified%d}; invoke responder 5/7 class %d store 0+2 AABB" % (cls, cls)), look(e)
+        cached(6)
+        rcv(G, 10, 5, "0E000702"), rcv(G, 20, 5, "0E00060%d" % cls, has="ToVerify"), rcv(G, 30, 5, "1C0006", has="Verified%d}; invoke responder 5/6" % cls), look(G, has="last of 5 is 7;")
+        cached(6)
+        rcv(G, 10, 5, "0E00060%d" % cls, has="ToVerify"), rcv(G, 30, 5, "1D0006", has="Verified%d}" % cls)
+    title("class 2 RESULT WAIT, hold-on sent: an Invoke with RID gets the hold-on again, a copy without RID nothing")
+    e, _ = reach("RInvokeRespWait2")
+    tim(e, 1200, has="HoldOnSent}; sent 188007"), rcv(e, 1300, 5, "0F000702 AABB", has="{RResultWait InvokeRid HoldOnRepeated}; sent 198007"), rcv(e, 1400, 5, "0E000702 AABB", has="{RResultWait Invoke Ignored}")
+    rcv(e, 1500, 5, "0F000700", has="HoldOnRepeated}; sent 198007"), look(e, has="RResultWait 5/7 RCR 0 AEC 0 due 0 length 2 hold-on-sent")
+    title("RESULT RESP WAIT of the responder: a plain Ack with RID and exit information confirms")
+    e, _ = reach("RResultRespWait")
+    rcv(e, 400, 5, "990007 0C04 01020304", has="{RResultRespWait PlainAck Confirmed}; confirm responder 5/7 datagram 5+4 01020304"), look(e)
+    title("WAIT TIMEOUT of the responder: an Invoke or a TIDok with RID gets the Ack again; the timer runs on")
+    for x, sent in (("", "198007"), ("B1B2", "9980070AB1B2")):
+        e, _ = reach("RWaitTimeout", exit_info=x)
+        rcv(e, 400, 5, "0F000701 AABB", has="InvokeSeenAgain}; sent " + sent), rcv(e, 400, 5, "1D0007", has="TidokSeenAgain}; sent " + sent)
+        look(e, has="due 5300"), tim(e, 5300, has="TimeoutEnds}"), look(e)
+    title("a verified class 1 transaction that loses its Ack: the TIDok with RID brings it again")
+    first_contact(1)
+    ans(G, 140, 1, 5, 7, has="; sent 188007")
+    tim(R, 2220, has="{IResultWait1 Timer Resent}; sent 1D0007"), get(G, 2230, 5, has="{RWaitTimeout TidAckRid TidokSeenAgain}; sent 198007"), get(R, 2240, 5, has="Confirmed}")
+    title("class 2 responder with user acknowledgement: AEC to AEC_MAX, and a result without an answer before it")
+    e, _ = reach("RInvokeRespWait2", up=1)
+    tim(e, 1200, has="UserAwaited}"), tim(e, 2200, has="UserAwaited}"), tim(e, 3200, has="UserSilent}; sent 20800708; fired responder 5/7; abort responder 5/7 reason 8 no data")
+    e, _ = reach("RInvokeRespWait2", up=1)
+    tim(e, 1200), res(e, 1300, 1, 5, 7, "", has="ResultSent}; sent 168007"), look(e, has="RResultRespWait 5/7 RCR 0 AEC 1 due 4300 length 0 user-ack")
+    title("a message shorter than the one in its cell: only its own length is resent")
+    pair(records=1)
+    req(R, 10, 5, 1, 0, "A1A2A3A4A5"), abo(R, 20, 0, 5, 7, 0), req(R, 30, 5, 1, 0, "B1", has="; sent 0E000801B1"), tim(R, 2030, has="; sent 0F000801B1")
+    put(R, 640, 5), tim(R, 5000, has="; sent 0F000801B1A2A3A4A5")
+
+
+# ---- timers, numbers, the table
+
+def timers():
+    title("ties of deadlines: the lowest place first, one record a call")
+    pair(records=3)
+    for peer in (9, 8, 7):
+        req(R, 100, peer, 1)
+    for peer, tid in ((9, 7), (8, 8), (7, 9)):
+        tim(R, 2100, has="; fired initiator %d/%d" % (peer, tid))
+    tim(R, 2100, has="{NoneDue}; none due")
+    title("the earliest deadline first, whatever its place")
+    pair(records=3)
+    req(R, 100, 5, 2), req(R, 200, 5, 1), req(R, 150, 5, 1, has="refused 2"), req(R, 300, 5, 1)
+    tim(R, 5000, has="; fired initiator 5/8"), tim(R, 5000, has="; fired initiator 5/9"), tim(R, 5000, has="; fired initiator 5/7"), tim(R, 5000, has="; none due")
+    title("time going back gives 2 and stores nothing; the same time is good; none due stores it")
+    pair()
+    tim(R, 1000, has="; none due"), tim(R, 999, has="refused 2"), tim(R, 1000), req(R, 999, 5, 1, has="refused 2"), look(R, has=": clock 1000, next TID 7")
+    title("the bound of times: 1,000,000,000,000 is accepted, one more gives 2; a deadline past the bound is never due")
+    pair()
+    req(R, BOUND + 1, 5, 1, has="refused 2"), req(R, BOUND, 5, 1, has="; tid 7"), look(R, has=": clock 1000000000000, next TID 8; record 0 IResultWait1 5/7 RCR 0 AEC 0 due 1000000002000")
+    tim(R, BOUND, has="; none due"), tim(R, 2 ** 64 - 1, has="refused 2")
+    title("a deadline in TIDOK WAIT, which only a crafted table has: the firing has no row and is ignored, and names the record each time")
+    for cls in (1, 2):
+        pair()
+        rcv(G, 10, 5, "0E00070%d" % cls), put(G, 632, 100), tim(G, 99, has="; none due"), tim(G, 100, has="{RTidokWait%d Timer Ignored}; fired responder 5/7" % cls), tim(G, 200, has="; fired responder 5/7")
+        look(G, has=": clock 200, next TID 7; record 0 RTidokWait%d 5/7 RCR 0 AEC 0 due 100" % cls)
+    title("a PDU or a firing that is ignored stores its time")
+    pair()
+    rcv(R, 500, 5, "188005", has="Ignored}"), tim(R, 499, has="refused 2"), rcv(R, 500, 5, "18", has="{Nobody}"), rcv(R, 600, 5, "0E800701", has="{Nobody}"), look(R, has=": clock 600")
+
+
+def refusals():
+    title("the fresh-table call: size, then settings and the first TID; 48 records at the most")
+    size(0, ": 0"), size(1, ": 784"), size(48, ": 8304"), size(49, ": 0"), size(2 ** 64 - 1, ": 0")
+    sets()
+    fresh(R, 0, has="refused 1"), fresh(R, 49, has="refused 1"), fresh(R, 48, 32767), fresh(R, 1, 32768, has="refused 10")
+    for sizes in ((783, 0, 0, 0, 32), (785, 0, 0, 0, 32), (624, 0, 0, 0, 32), (8464, 0, 0, 0, 32), (0, 0, 0, 0, 32)):
+        lends(*sizes), fresh(R, 1, has="refused 1")
+    lends(783, 0, 0, 0, 31), fresh(R, 1, 32768, has="refused 1")
+    edge("fresh: wrong size and bad setting")
+    for n in (31, 33, 0):
+        lends(784, 0, 0, 0, n), fresh(R, 1, has="refused 10")
+    lends()
+    for k, v in ((0, 9), (1, 9), (2, 0), (2, 86400001), (3, 0), (3, 86400001), (4, 0), (12, 0), (12, 86400001), (13, 0), (21, 0), (21, 86400001), (22, 1), (31, 1), (0, 2 ** 64 - 1), (2, 2 ** 32 + 5)):
+        sets(**{"_%d" % k: v}), fresh(R, 1, has="refused 10")
+    for k, v in ((0, 0), (0, 8), (1, 0), (1, 8), (2, 1), (3, 86400000), (12, 1), (21, 86400000)):
+        sets(**{"_%d" % k: v}), fresh(R, 1, 0)
+    look(R)
+    title("the fresh-table call takes any old contents: live records, cached TIDs, damage")
+    pair()
+    req(R, 100, 5, 1), rcv(R, 200, 6, "0E000901"), rcv(R, 300, 6, "1C0009"), put(R, 92, 1), put(R, 7, 255), fresh(R, 2, 32767), look(R, has=": clock 0, next TID 32767"), req(R, 0, 5, 1, has="; tid 32767")
+    title("number 1 of the six calls: store, output, answer or table of the wrong size, whatever else is wrong")
+    pair(records=2)
+    req(R, 10, 5, 1)
+    for sizes in ((943, 2048, 1100, 33, 32), (945, 2048, 1100, 33, 32), (784, 2048, 1100, 33, 32), (624, 0, 1100, 33, 32), (0, 0, 1100, 33, 32), (944, 2047, 1100, 33, 32), (944, 2049, 1100, 33, 32), (944, 1024, 1100, 33, 32),
+                  (944, 2048, 1027, 33, 32), (944, 2048, 0, 33, 32), (944, 2048, 1100, 31, 32), (944, 2048, 1100, 0, 32), (8464, 50176, 1100, 33, 32)):
+        lends(*sizes)
+        every_call("refused 1")
+    lends(944, 2048, 1028, 32, 32)
+    rcv(R, 20, 5, "188007", has="Confirmed}")
+    lends()
+    title("number 1: a damaged table, one field after the other, each mended again; the time is wrong as well")
+    pair(records=2, _0=4, _1=2)
+    tim(R, 50), req(R, 60, 5, 1), req(R, 70, 5, 2)
+    for at, value in ((7, 1), (9, 128), (10, 9), (11, 9), (15, 255), (23, 255), (92, 1), (111, 1), (113, 129), (624, 12), (624, 0), (627, 128), (628, 5), (629, 3), (630, 16), (631, 129), (639, 1), (641, 255), (644, 1), (655, 255)):
+        was = ends[R].octets[at]
+        put(R, at, value), tim(R, 49, has="refused 1"), put(R, at, was)
+    put(R, 10, 9), req(R, 0, 256, 3, 0, "00" * 1025, has="refused 1"), put(R, 10, 4)
+    edge("damaged table and time wrong")
+    title("what is not judged: exit information past its length; it stays as it is, and is zeroed with its record")
+    pair(records=2)
+    req(R, 60, 5, 1), req(R, 70, 6, 1)
+    put(R, 783, 77), tim(R, 80, has="; none due"), put(R, 783, 77), tim(R, 2060, has="fired initiator 5/7"), put(R, 783, 77), abo(R, 2070, 0, 5, 7, 1), put(R, 783, 0), req(R, 2080, 5, 1, has="; tid 9")
+    title("two live records of the same role, peer and TID give 1")
+    pair(records=2)
+    req(R, 60, 5, 1), req(R, 70, 5, 2), put(R, 786, 7), tim(R, 80, has="refused 1"), put(R, 786, 8), tim(R, 80, has="; none due")
+    title("every call refuses a damaged table, and works on the mended one")
+    pair()
+    req(R, 10, 5, 1), put(R, 100, 1)
+    every_call("refused 1")
+    put(R, 100, 0), rcv(R, 20, 5, "188007", has="Confirmed}")
+    title("every call refuses a time that goes back or is over the bound")
+    pair()
+    req(R, 10, 5, 1)
+    every_call("refused 2", 9), every_call("refused 2", BOUND + 1)
+    title("the lowest number: time before peer, peer before data, data before class, class before TID in use, that before no free record")
+    pair(records=1, first=7)
+    tim(R, 100)
+    req(R, 99, 256, 3, 0, "00" * 1025, has="refused 2")
+    edge("time below clock and everything else wrong")
+    req(R, 100, 256, 3, 0, "00" * 1025, has="refused 3")
+    edge("data 1,025 and peer 256")
+    req(R, 100, 255, 3, 0, "00" * 1025, has="refused 4")
+    edge("data 1,025, class 3")
+    req(R, 100, 255, 1, has="; tid 7"), req(R, 100, 5, 3, has="refused 5")
+    edge("class 3 at a full table")
+    req(R, 100, 5, 2 ** 64 - 1, has="refused 5"), req(R, 100, 2 ** 64 - 1, 1, has="refused 3"), req(R, 100, 5, 1, has="refused 7"), put(R, 8, 7), req(R, 100, 6, 2, has="refused 6")
+    edge("class 2, GenTID live, table full")
+    req(R, 100, 6, 0, has="refused 6"), look(R, has=": clock 100, next TID 7;")
+    edge("6 refuses class 0 too")
+    title("GenTID that comes round to a held-on record gives 6 until its user aborts; a responder record of that TID doesn't matter")
+    pair()
+    rcv(R, 10, 5, "0E000701"), req(R, 20, 9, 2, has="; tid 7"), rcv(R, 30, 9, "188007", has="HeldOn}"), put(R, 8, 7), req(R, 40, 5, 0, has="refused 6"), req(R, 40, 5, 1, has="refused 6")
+    abo(R, 50, 0, 9, 7, 0, has="; sent 21000700"), req(R, 60, 5, 1, has="; tid 7")
+    title("the user's answer: 3, 4, 8, 9 in this order; exit information with an answer naming a class 2 responder is 4 in every state")
+    long = "00" * 129
+    pair()
+    ans(R, 10, 0, 256, 7, long, has="refused 3"), ans(R, 10, 0, 5, 7, long, has="refused 4"), ans(R, 10, 0, 5, 7, "AA", has="refused 8")
+    edge("answer with exit information: name unknown")
+    for state in ("RTidokWait2", "RInvokeRespWait2", "RResultWait", "RResultRespWait"):
+        e, role = reach(state)
+        ans(e, 400, role, 5, 7, "AA", has="refused 4"), look(e)
+        edge("answer with exit information: class 2 responder in " + state)
+    for state in ("RWaitTimeout", "RTidokWait1", "IResultWait1", "IResultWait2", "IWaitTimeout"):
+        e, role = reach(state)
+        ans(e, 400, role, 5, 7, "AA", has="refused 9"), ans(e, 400, 1 - role, 5, 7, "AA", has="refused 8"), ans(e, 400, role, 6, 7, "AA", has="refused 8")
+        edge("answer with exit information: " + state)
+    e, role = reach("IResultRespWait")
+    ans(e, 400, role, 5, 7, "AA", has="; sent 98000709AA")
+    edge("answer with exit information: initiator RESULT RESP WAIT")
+    title("a TID with its top bit, and a role that is none, have no live record: 8")
+    e, role = reach("RInvokeRespWait1")
+    ans(e, 400, 1, 5, 0x8007, has="refused 8"), abo(e, 400, 1, 5, 0x8007, 0, has="refused 8"), res(e, 400, 1, 5, 2 ** 64 - 1, has="refused 8")
+    edge("TID with top bit")
+    ans(e, 400, 2, 5, 7, has="refused 8"), res(e, 400, 2 ** 64 - 1, 5, 7, has="refused 8"), abo(e, 400, 2, 5, 7, 0, has="refused 8"), ans(e, 400, 1, 5, 7, has="; sent 188007")
+    edge("role that is none")
+    title("the user's result: 3, 4, 8, 9; the initiator's record has no row for it")
+    e, role = reach("RInvokeRespWait2")
+    res(e, 400, 1, 256, 7, "00" * 1025, has="refused 3"), res(e, 400, 1, 6, 7, "00" * 1025, has="refused 4"), res(e, 400, 1, 6, 7, has="refused 8"), res(e, 400, 0, 5, 7, has="refused 8")
+    e, role = reach("RTidokWait2")
+    res(e, 400, 1, 5, 7, has="refused 9 {RTidokWait2")
+    title("the user's abort: 3, 8, 9; any octet is a reason")
+    e, role = reach("RInvokeRespWait2")
+    abo(e, 400, 1, 256, 7, 0, has="refused 3"), abo(e, 400, 1, 5, 8, 0, has="refused 8"), abo(e, 400, 0, 5, 7, 0, has="refused 8"), abo(e, 400, 1, 5, 7, 0, has="; sent 21800700")
+    abo(e, 400, 1, 5, 7, 0, has="refused 8")
+    title("receive: peer before length; 0 and 1,501 octets give 11, of the ignored direction too; 1,500 are accepted")
+    pair()
+    rcv(G, 10, 256, "", has="refused 3")
+    edge("receive: peer 256 and empty PDU")
+    rcv(G, 10, 5, "", has="refused 11"), rcv(G, 10, 5, "0E800702", [0] * 1497, has="refused 11")
+    edge("receive: 1,501 octets of an Invoke with top bit 1")
+    rcv(G, 10, 5, "0E000702", [0] * 1497, has="refused 11"), look(G, has=": clock 0"), rcv(G, 10, 5, "0E000702", [0] * 1496, has="TooLong}; sent 20800707")
+
+
+def every_call(has, time=20):
+    """Each of the six calls, each of which would otherwise be accepted or refused with a higher number."""
+    req(R, time, 5, 1, 0, "AA", has=has), ans(R, time, 0, 5, 7, has=has), res(R, time, 0, 5, 7, has=has), abo(R, time, 0, 5, 7, 0, has=has)
+    rcv(R, time, 5, "188007", has=has), tim(R, time, has=has)
+
+
+def mixups():
+    title("mix-up: an abort shown as a result without data. A Result with no data is a true result")
+    pair()
+    req(R, 10, 5, 2), rcv(R, 20, 5, "188007"), rcv(R, 30, 5, "168007", has="; result initiator 5/7 datagram 3+0")
+    req(R, 40, 5, 2), rcv(R, 50, 5, "188008"), rcv(R, 60, 5, "208008 00", has="; abort initiator 5/8 no data")
+    abo(R, 70, 0, 5, 7, 0), req(R, 80, 5, 2), rcv(R, 90, 5, "188009"), rcv(R, 95, 5, "218009 00", has="; abort initiator 5/9 type 1 no data")
+    title("mix-up: a cached TID compared as a plain number, so that 0 after 32,767 looks old")
+    sets()
+    fresh(R, 2, 32767), fresh(G, 2, 0)
+    req(R, 10, 5, 1), get(G, 20, 5, has="; sent 1CFFFF"), get(R, 30, 5, has="; sent 1C7FFF"), get(G, 40, 5, has="Verified1}; invoke responder 5/32767"), ans(G, 50, 1, 5, 32767), get(R, 60, 5, has="Confirmed}")
+    req(R, 70, 5, 1, has="; tid 0"), get(G, 80, 5, has="{Free Invoke Valid1}; invoke responder 5/0")
+    title("mix-up: the RID-clear copy of an Invoke answered again. It is not, in any state")
+    first_contact(1)
+    rcv(G, 135, 5, "0E000701 AABB", has="{RInvokeRespWait1 Invoke Ignored}"), ans(G, 140, 1, 5, 7, has="; sent 188007"), rcv(G, 150, 5, "0E000701 AABB", has="{RWaitTimeout Invoke Ignored}"), rcv(G, 160, 5, "0F000701 AABB", has="; sent 198007")
+    pair()
+    rcv(G, 10, 5, "0E000702"), rcv(G, 20, 5, "0E000702", has="{RTidokWait2 Invoke Ignored}"), rcv(G, 30, 5, "1C0007"), tim(G, 1030, has="; sent 188007"), rcv(G, 1040, 5, "0E000702", has="{RResultWait Invoke Ignored}")
+    title("mix-up: TIDok sent without counting it in RCR. With RCR_MAX 1 it is the one PDU after the Invoke")
+    pair(_0=1)
+    req(R, 100, 5, 1), rcv(R, 200, 5, "1C8007", has="; sent 1C0007"), look(R, has="RCR 1 AEC 0 due 2300"), rcv(R, 300, 5, "1C8007", has="Ignored}"), tim(R, 2300, has="GivenUp}")
+    title("mix-up: a refusal that has already raised GenTID or stored the time")
+    pair(records=1)
+    req(R, 100, 5, 1, has="; tid 7"), req(R, 500, 5, 1, has="refused 7"), req(R, 500, 5, 9, has="refused 5"), req(R, 500, 5, 1, 0, "00" * 1025, has="refused 4"), res(R, 500, 0, 5, 7, has="refused 9"), rcv(R, 500, 5, "", has="refused 11")
+    look(R, has=": clock 100, next TID 8;"), tim(R, 100, has="; none due"), req(R, 100, 5, 0, has="; tid 8")
+
+
+# ---- what must be reached
+
+def needed():
+    """Every line of the state tables (state, event, condition), dispatch, first Invokes, refusals and edge cases."""
+    both = ["Ack", "Ack RID", "Tve", "Tve RID", "Segmented Invoke", "Segmented Result", "Nack", "malformed", "answer", "result", "abort"]
+    events = {"I": both + ["Result", "Result RID", "Result cut", "Result cut RID"], "R": both + ["Invoke", "Invoke RID"]}
+    counted = ["RCR < RCR_MAX, TIDok not sent", "RCR < RCR_MAX, TIDok sent", "RCR = RCR_MAX"]
+    silent = ["no U/P", "U/P, AEC < AEC_MAX", "U/P, AEC = AEC_MAX"]
+    held, exit_or_not, cache = ["not HoldOn", "HoldOn"], ["", "exit information"], ["none cached", "cached"]
+    conditions = {("IResultWait1", "timer"): counted, ("IResultWait2", "timer"): counted, ("IResultRespWait", "timer"): silent, ("IResultRespWait", "answer"): exit_or_not,
+                  ("RInvokeRespWait1", "timer"): silent, ("RInvokeRespWait2", "timer"): silent, ("RInvokeRespWait1", "answer"): exit_or_not,
+                  ("RResultWait", "Invoke RID"): ["hold-on sent", "hold-on not sent"], ("RResultRespWait", "timer"): ["RCR < RCR_MAX", "RCR = RCR_MAX"],
+                  ("RWaitTimeout", "Invoke RID"): exit_or_not, ("RWaitTimeout", "Tve RID"): exit_or_not}
+    for rid in ("", " RID"):
+        conditions.update({("IResultWait1", "Tve" + rid): counted, ("IResultWait2", "Tve" + rid): counted, ("IResultWait2", "Ack" + rid): held, ("IResultWait2", "Result" + rid): held,
+                           ("RTidokWait1", "Tve" + rid): cache, ("RTidokWait2", "Tve" + rid): cache})
+    conditions.update({("IWaitTimeout", "Result RID"): exit_or_not, ("IWaitTimeout", "Result cut RID"): exit_or_not})
+    for state in STATES[1:]:
+        for event in events[state[0]] + ["timer"]:
+            yield from ((state, event, c) for c in conditions.get((state, event), [""]))
+        yield from ((state, "Abort", c) for c in ("provider", "user"))
+    yield from (("Free", "malformed", c) for c in ("Invoke", "TIDve", "other"))
+    yield from (("Free", "Tve" + rid, c) for rid in ("", " RID") for c in ("TIDve", "top bit 0"))
+    yield from (("Free", e, "top bit %d" % k) for e in ("Ack", "Ack RID", "Abort", "Segmented Invoke", "Segmented Result", "Nack") for k in (0, 1))
+    yield from (("Free", e, "top bit 1") for e in ("Result", "Result RID", "Result cut", "Result cut RID"))
+    yield from (("dispatch", "%d octets" % n, "") for n in (1, 2))
+    yield from (("dispatch", d, f) for d in ("Invoke with top bit 1", "Result with top bit 0") for f in ("well formed", "malformed"))
+    yield from (("dispatch", "ignored direction", c) for c in ("live record", "no record"))
+    yield from (("first Invoke, class 0", t, "") for t in ("a", "b", "c", "d", "d, full table"))
+    yield from (("first Invoke, class %d" % k, t, "") for k in (1, 2) for t in ("a", "b", "c", "e", "f", "g, none cached", "g, d = 0", "g, d over 16,383"))
+    yield from (("timer", "fired", c) for c in ("alone", "later ones due", "a tie"))
+    yield ("timer", "none due", "")
+    numbers = {"fresh": (0, 1, 10), "request": (0, 2, 3, 4, 5, 6, 7), "answer": (0, 2, 3, 4, 8, 9), "result": (0, 2, 3, 4, 8, 9), "abort": (0, 2, 3, 8, 9), "receive": (0, 2, 3, 11), "timer": (0, 2)}
+    yield from ((name, n, "") for name, list_ in numbers.items() for n in list_)
+    yield from ((name, 1, why) for name in numbers if name != "fresh" for why in ("size", "form"))
+    yield from (("edge", text, "") for text in EDGES)
+    yield from (("row", row, "") for row in ROWS.split())
+    yield from (("row", "opening " + row, "") for row in OPENINGS.split())
+
+
+EDGES = ["data 1,025 and peer 256", "data 1,025, class 3", "class 3 at a full table", "class 2, GenTID live, table full", "time below clock and everything else wrong", "damaged table and time wrong",
+         "answer with exit information: name unknown", "answer with exit information: RWaitTimeout", "answer with exit information: IResultWait1", "answer with exit information: IResultWait2",
+         "answer with exit information: initiator RESULT RESP WAIT", "TID with top bit", "role that is none", "receive: peer 256 and empty PDU", "receive: 1,501 octets of an Invoke with top bit 1",
+         "fresh: wrong size and bad setting", "6 refuses class 0 too"] + ["answer with exit information: class 2 responder in " + s for s in ("RTidokWait2", "RInvokeRespWait2", "RResultWait", "RResultRespWait")]
+ROWS = """Ignored NotAllowed PeerAborts Malformed UserAborts PeerAbortsUnseen MalformedUnseen TidokSent Confirmed HeldOn Resent GivenUp ResultUnsupported ResultConfirms ResultTaken ResultAnswered
+          ResultAcked UserAwaited UserSilent ResultSeenAgain TimeoutEnds Verified1 Verified2 TidveRepeated InvokeAnswered InvokeAcked UserWorks HoldOnSent ResultSent HoldOnRepeated ResultResent
+          InvokeSeenAgain TidokSeenAgain"""
+OPENINGS = "Ignored Requested0 Requested1 Requested2 Malformed WrongVersion Unsupported TooLong Shown0 Valid1 Valid2 ToVerify1 ToVerify2 UnknownTidve"
+
+transactions()
+user_acknowledgement()
+exit_information()
+resending()
+tids()
+openings()
+malformed()
+in_every_state()
+acting_rows()
+timers()
+refusals()
+mixups()
+missed = [key for key in needed() if key not in reached]
+if missed or len(titles) < 60:
+    sys.exit("scenarios: %d titles; not reached:\n" % len(titles) + "\n".join(" | ".join(map(str, key)) for key in missed))
+assert len("\n".join(lines)) < 65536, "the program reads 65,536 octets"
+crate = pathlib.Path(__file__).resolve().parent.parent / "crates" / "scenarios"
+files = {"stdin": "\n".join(lines) + "\n", "stdout": "\n".join(expected) + "\n"}
+if "--check" in sys.argv[1:]:
+    wrong = [name for name, text in files.items() if (crate / name).read_text() != text]
+    sys.exit("scenarios: " + ", ".join(wrong) + " differ from document 01 as read here" if wrong else 0)
+for name, text in files.items():
+    (crate / name).write_text(text)
+print("%d scenarios, %d lines" % (len(titles), len(lines)))
