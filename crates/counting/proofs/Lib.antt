@@ -1,0 +1,4 @@
+pub mod Acts
+pub mod Sums
+pub mod Turns
+pub mod Shows

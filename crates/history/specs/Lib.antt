@@ -1,0 +1,4 @@
+pub mod Trace
+pub mod Tally
+pub mod Moves
+pub mod Demand

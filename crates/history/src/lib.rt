@@ -1,0 +1,1 @@
+// Demand 3: what no sequence of calls can break: laws alone.
