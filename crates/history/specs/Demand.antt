@@ -77,12 +77,16 @@ InvokeExact e h = (peer tid class : ℕ) (up : Bool) (place : Place) → Shows e
 abbrev pub OneChanged : Entry → List Entry → Type 0
 OneChanged e h = SameRecords e ⊎ ((place : ℕ) × OthersSame e place)
 
+-- within the limits after this call: so for every request and every record of the history, and not only for the last under its name
+abbrev pub Limited : ℕ → Entry → List Entry → Type 0
+Limited max e h = (n : Name) → Limits max (tally (e ∷ h) n)
+
 -- demand 3 of a table and its history, with RCR_MAX
 pub record Demand3 (max : ℕ) (t : List ℕ) (h : List Entry) : Type 0 where
   -- "No two live records ever share role, peer and TID"
   pub unique : Unique t (count t)
   -- "at most one confirmation, one result and one abort"; "Its Invoke PDUs and TIDok answers number at most 1 + RCR_MAX together"; "shows that Invoke to its user at most once"
-  pub limits : (n : Name) → Limits max (tally h n)
+  pub limits : Throughout (Limited max) h
   -- "nothing after the user's own abort or one shown to it"
   pub calm : Throughout Calm h
   -- "a result only with the exact data of a Result PDU taken while that request waited for it"

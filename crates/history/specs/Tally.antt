@@ -3,9 +3,9 @@ use Prim.Native.Nat.{ℕ, _/_, _%_}
 use mathlib.Core.Bool.{Bool, true, false}
 use mathlib.Core.List.{List, [], _∷_}
 use lib.ListN.{getD}
-use lib.Dec.{eqb}
+use lib.Dec.{ltb, eqb}
 use Rattle.seq.specs.Seq.{pick, bit, part}
-use Rattle.record.specs.Record.{roleNumber, sendTid}
+use Rattle.record.specs.Record.{roleNumber}
 use Rattle.record.specs.declared.Role.{Role}
 use Rattle.record.specs.declared.Role.the-variants.{Initiator, Responder}
 use Rattle.table.specs.Table.{count}
@@ -69,9 +69,13 @@ ofType Initiator type first =
 ofType Responder type first =
     pick (eqb type 2) (invoked 1 0) (pick (eqb type 4) (aborted (bit (eqb (first % 8) 1))) none)
 
--- what octets sent to a peer add under a name: "The top bit is 0 towards the responder, 1 towards the initiator"
+-- who sent octets: "The top bit is 0 towards the responder, 1 towards the initiator"
+abbrev pub senderRole : List ℕ → Role
+senderRole s = pick (ltb (tidOf s) 32768) Initiator Responder
+
+-- what octets sent to a peer add under a name, which the low 15 TID bits give
 unfoldable pub ofSent : Name → ℕ → List ℕ → Counts
-ofSent n peer s = pick (eqb (n .peer) peer) (pick (eqb (tidOf s) (sendTid (n .role) (n .tid))) (ofType (n .role) (typeOf s) (getD s 0 0)) none) none
+ofSent n peer s = pick (isNamed n (senderRole s) peer (tidOf s % 32768)) (ofType (n .role) (typeOf s) (getD s 0 0)) none
 
 -- what an answer shows under a name
 abbrev pub ofAnswer : Name → Answer → Counts

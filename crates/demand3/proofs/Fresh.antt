@@ -1,0 +1,46 @@
+-- A fresh table satisfies the invariant: no record is live and nothing was counted. Assumes nothing.
+use Prim.Native.Nat.{ℕ, _*_}
+use native.Mathlib.Omega.{arith}
+use mathlib.Core.Path.{_≡_, refl, ap}
+use mathlib.Core.List.{List, []}
+use lib.ListN.{length, getD}
+use Rattle.record.specs.Record.{stateNumber}
+use Rattle.table.specs.Table.{count, settingsOf}
+use Rattle.table.specs.declared.Settings.{Settings}
+use Rattle.ranges.specs.Ranges.{cellSize}
+use Rattle.counting.specs.Counting.{none, Limits}
+use Rattle.fresh.specs.Fresh.{freshAnswer, tableAfter}
+use Rattle.fresh.specs.declared.Fresh.the-variants.{Made}
+use Rattle.fresh.proofs.Ranges.{in-range}
+use Rattle.fresh.proofs.Answers.{accepted}
+use Rattle.fresh.proofs.Facts.{fresh-facts}
+use Rattle.fresh_ok.specs.FreshOk.{FreshOk}
+use Rattle.fresh_ok.proofs.Formed.{fresh-ok}
+use Rattle.history.specs.Tally.{tally}
+use Rattle.demand3.specs.Invariant.{Inv, Sizes}
+
+none-limits : (max : ℕ) → Limits max none
+none-limits max = record { sends = omega arith; resultsSent = omega arith; confirms = omega arith; results = omega arith; aborts = omega arith; shows = omega arith }
+
+pub fresh-inv : (old t : List ℕ) (first : ℕ) → FreshOk old t first → Inv (settingsOf t .«rcr_max») t []
+unfolding tally
+fresh-inv old t first f = record {
+  formed = f .formed;
+  rcr-max = refl;
+  says = λ i inside live. absurd (omega (arith, live, ap stateNumber (f .no-record i)));
+  limits = λ n. none-limits (settingsOf t .«rcr_max»);
+}
+
+pub fresh-sizes : (old t s : List ℕ) (first : ℕ) → FreshOk old t first → length s ≡ count t * cellSize → Sizes t s
+fresh-sizes old t s first f cells = record { formed = f .formed; cells = cells }
+
+module _ (old ws : List ℕ) (first : ℕ) (made : freshAnswer (length old) ws first ≡ Made) where
+  -- RCR_MAX of a fresh table is its first setting
+  fresh-rcr-max : settingsOf (tableAfter Made old ws first) .«rcr_max» ≡ getD ws 0 0
+  unfolding tableAfter
+  fresh-rcr-max = ap (λ (s : Settings). s .«rcr_max») (fresh-facts (count old) ws first (in-range ws first (accepted (length old) ws first made .1)) .settings)
+
+  pub made-inv : Inv (getD ws 0 0) (tableAfter Made old ws first) []
+  made-inv =
+      let v = fresh-inv old (tableAfter Made old ws first) first (fresh-ok old ws first made) in
+      rw fresh-rcr-max at v

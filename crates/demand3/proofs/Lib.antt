@@ -1,0 +1,9 @@
+pub mod Counted
+pub mod Names
+pub mod Refused
+pub mod Entered
+pub mod Kept
+pub mod Through
+pub mod Fresh
+pub mod Follows
+pub mod Whole
