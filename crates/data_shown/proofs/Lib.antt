@@ -1,0 +1,12 @@
+pub mod Ways
+pub mod Fields
+pub mod Cells
+pub mod Effects
+pub mod Indicated
+pub mod Results
+pub mod Living
+pub mod Verifying
+pub mod Openings
+pub mod Held
+pub mod Invokes
+pub mod Throughout
