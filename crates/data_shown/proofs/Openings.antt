@@ -45,6 +45,7 @@ use Rattle.steps.specs.declared.Call.{Call as Asked}
 use Rattle.receives.specs.Receives.{arriverOf, openedGiven, openedCall, arrivalOpening}
 use Rattle.receives.proofs.Ways.{Unmatched, Opens, leaves-or-opens}
 use Rattle.plans.proofs.Openings.{openedRole, OpenedAs, opened-as}
+use Rattle.plans.proofs.Receives.{not-free, ends-free, same-role}
 use Rattle.history.specs.Trace.{Entry}
 use Rattle.history.specs.Demand.{userData, openedData}
 use Rattle.data_shown.specs.Cells.{responder}
@@ -123,22 +124,6 @@ module _ (t : List ℕ) (opening : Opening) (h : Holder) (g : Given) (genTid : H
   unfolding openingStep stepOf openingChanges changeOf
   opening-puts e = rw e refl
 
--- an opening that ends leaves a free record
-ends-free : (opening : Opening) (t : List ℕ) (h : Holder) (g : Given) → openingAct opening .next ≡ Ends → 1 ≤ stateNumber (openedTurn t opening h g .after .state) → ⊥
-unfolding openedTurn openingTurn turnOf recordAfter newRecord
-ends-free opening t h g e l = absurd (omega (arith, rw e at l))
-
--- two names of one PDU are one
-same-role : (n : Name) (r r' : Role) (i i' : ℕ) → n ≡ Of r i → n ≡ Of r' i' → r ≡ r'
-same-role n r r' i i' e e' = ap roleIn (sym e ∙ e')
-  where
-    roleIn : Name → Role
-    roleIn Nobody = r
-    roleIn (Of x j) = x
-
-live-not-free : (s : State) → 1 ≤ stateNumber s → s ≡ Free → ⊥
-live-not-free s h e = absurd (omega (arith, h, ap stateNumber e))
-
 live-tested : (s : State) → 1 ≤ stateNumber s → eqb (stateNumber s) 0 ≡ false
 live-tested s h = go (eqb (stateNumber s) 0) refl
   where
@@ -197,7 +182,7 @@ module _ (e : Entry) (time peer : ℕ) (u : Unmatched (e .lent .table) time peer
 
     called : (r : Record) → r ≡ turn .after → Called Responder peer (u .tid) r
     unfolding newRecord
-    called r is = rw is (record { live = live-not-free (turn .after .state) live; role-is = named .role ∙ responds-so; peer-is = named .peer; tid-is = named .tid })
+    called r is = rw is (record { live = not-free (turn .after .state) live; role-is = named .role ∙ responds-so; peer-is = named .peer; tid-is = named .tid })
 
     none-before : NoneOf (Called Responder peer (u .tid)) t (count t)
     none-before = rw (is-responder (leaves-or-opens t peer (u .tid) (e .lent .given) p)) at (u .none)

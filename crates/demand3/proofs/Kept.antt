@@ -26,7 +26,8 @@ use Rattle.history.specs.Moves.{nameOf, turnAdds, before, after, Silent, Quiet,
 use Rattle.history.specs.Demand.{brings, Calm, OneChanged}
 use Rattle.demand3.specs.Invariant.{Says, Inv}
 use Rattle.demand3.proofs.Counted.{silent-tally, goes-on, starts-anew}
-use Rattle.demand3.proofs.Names.{same-number, same-name, not-free, two-names, unused-name}
+use Rattle.plans.proofs.Receives.{not-free}
+use Rattle.demand3.proofs.Names.{same-number, same-name, two-names, unused-name}
 
 -- a live record says that no abort was counted
 pub none-aborted : (s : State) (rcr : ℕ) (holdOn : Bool) → countsIn s rcr holdOn .aborts ≡ 0

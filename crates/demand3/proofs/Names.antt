@@ -22,6 +22,7 @@ use Rattle.finding.specs.Finding.{isFound, namedOf}
 use Rattle.finding.specs.declared.Found.{Found}
 use Rattle.finding.specs.declared.Found.the-variants.{At, Nothing}
 use Rattle.finding.proofs.Meaning.{named-nothing}
+use Rattle.plans.proofs.Receives.{not-free}
 use Rattle.history.specs.Tally.{Name, lives}
 use Rattle.history.specs.Moves.{nameOf}
 
@@ -54,10 +55,6 @@ same-name m n = go (same-role (m .role) (n .role)) (same-number (m .peer) (n .pe
 -- records of one name share role, peer and TID
 shared : (r s : Record) → nameOf r ≡ nameOf s → SameName r s
 shared r s e = record { role = ap (λ (x : Name). x .role) e; peer = ap (λ (x : Name). x .peer) e; tid = ap (λ (x : Name). x .tid) e }
-
--- a live state isn't free
-pub not-free : (s : State) → 1 ≤ stateNumber s → s ≡ Free → ⊥
-not-free s h e = omega (arith, ap stateNumber e)
 
 module _ (t : List ℕ) where
   -- live records at two places have two names

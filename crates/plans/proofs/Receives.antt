@@ -60,7 +60,7 @@ use Rattle.plans.specs.Plans.{PlanSound}
 use Rattle.plans.proofs.Openings.{openedRole, OpenedAs, opened-as}
 
 -- what is said of two is said of the one that is picked
-picked : (P : Opening → Type 0) (b : Bool) (x y : Opening) → P x → P y → P (pick b x y)
+pub picked : (P : Opening → Type 0) (b : Bool) (x y : Opening) → P x → P y → P (pick b x y)
 picked P true x y p q = p
 picked P false x y p q = q
 
@@ -118,16 +118,16 @@ arrival a =
     P o = arrives o ≡ true
 
 -- a live record's state isn't free
-not-free : (s : State) → 1 ≤ stateNumber s → s ≡ Free → ⊥
+pub not-free : (s : State) → 1 ≤ stateNumber s → s ≡ Free → ⊥
 not-free s h e = absurd (omega (arith, h, ap stateNumber e))
 
 -- an opening that ends leaves a free record
-ends-free : (opening : Opening) (t : List ℕ) (h : Holder) (g : Given) → openingAct opening .next ≡ Ends → 1 ≤ stateNumber (openedTurn t opening h g .after .state) → ⊥
+pub ends-free : (opening : Opening) (t : List ℕ) (h : Holder) (g : Given) → openingAct opening .next ≡ Ends → 1 ≤ stateNumber (openedTurn t opening h g .after .state) → ⊥
 unfolding openedTurn openingTurn turnOf recordAfter newRecord
 ends-free opening t h g e l = absurd (omega (arith, rw e at l))
 
 -- two names of one PDU are one
-same-role : (n : Name) (r r' : Role) (i i' : ℕ) → n ≡ Of r i → n ≡ Of r' i' → r ≡ r'
+pub same-role : (n : Name) (r r' : Role) (i i' : ℕ) → n ≡ Of r i → n ≡ Of r' i' → r ≡ r'
 same-role n r r' i i' e e' = ap roleIn (sym e ∙ e')
   where
     roleIn : Name → Role

@@ -1,0 +1,17 @@
+pub mod Names
+pub mod Sent
+pub mod Shown
+pub mod Roles
+pub mod Counted
+pub mod Records
+pub mod Openings
+pub mod Left
+pub mod Turned
+pub mod Opened
+pub mod Arrivals
+pub mod Quiet
+pub mod Requests
+pub mod Primitives
+pub mod Receives
+pub mod Timers
+pub mod Moves
