@@ -8,6 +8,8 @@ usage: tests/codec_cases.py [--check]   (--check: only say whether both files ar
 import pathlib
 import sys
 
+from notation import text_of
+
 HEADER = {1: 4, 2: 3, 3: 3, 4: 4, 5: 4, 6: 4, 7: 4}
 GTR_TTR = {1, 2, 5, 6}
 BARE = {3, 4, 7}
@@ -150,18 +152,6 @@ def join(lengths, src):
         out += src[at:at + n]
         at += n
     return out if len(out) <= 1500 else 11
-
-
-def text_of(octets):
-    """Octets as digits; a run of four or more equal ones as the octet, a star, a number and a comma."""
-    out, i = "", 0
-    while i < len(octets):
-        n = 1
-        while i + n < len(octets) and octets[i + n] == octets[i]:
-            n += 1
-        out += "%02X" % octets[i] + ("*%d," % n if n >= 4 else "")
-        i += n if n >= 4 else 1
-    return out
 
 
 def outcome(n):

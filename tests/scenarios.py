@@ -2,13 +2,16 @@
 """Writes the scenarios and what they must give: crates/scenarios/stdin and stdout.
 
 An independent reading of document 01 ("Numbers given back", "TIDs", "Events", bench cases, mix-ups), of the C interface's words and of
-docs/TABLE.md: nothing here is taken from the definitions or the code, so the program's output is compared with a second opinion.
+docs/TABLE.md, written from these and not from the definitions, so the program's output is compared with a second opinion; only the names
+of states and rows are those that the program prints.
 It fails, and names them, if a row, a test of a first Invoke, a refusal or an edge case is not reached; what a scenario is there to show
 is written beside its line as `has` and compared with what the reading gives.
 usage: tests/scenarios.py [--check]   (--check: only say whether both files are as this script writes them)
 """
 import pathlib
 import sys
+
+from notation import text_of
 
 BOUND = 10 ** 12
 LONGEST = 86400000
@@ -610,18 +613,6 @@ def make_fresh(end, first):
 
 
 # ---- what the program prints
-
-def text_of(octets):
-    """Octets as digits; a run of four or more equal ones as the octet, a star, a number and a comma."""
-    out, i = "", 0
-    while i < len(octets):
-        n = 1
-        while i + n < len(octets) and octets[i + n] == octets[i]:
-            n += 1
-        out += "%02X" % octets[i] + ("*%d," % n if n >= 4 else "")
-        i += n if n >= 4 else 1
-    return out
-
 
 def outcome(n):
     return ": ok" if n == 0 else ": refused %d" % n
