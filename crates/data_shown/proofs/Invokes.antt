@@ -52,6 +52,7 @@ use Rattle.calls_laws.specs.Promise.{planFor}
 use Rattle.history.specs.Trace.{Entry, Promise}
 use Rattle.history.specs.Moves.{before}
 use Rattle.history.specs.Demand.{openedData, InvokeExact}
+use Rattle.moves.proofs.Arrivals.{same-class}
 use Rattle.data_shown.specs.Cells.{responder, CellsHold}
 use Rattle.data_shown.proofs.Ways.{Lived, Requested, Way}
 use Rattle.data_shown.proofs.Indicated.{shows-invoke}
@@ -61,19 +62,6 @@ use Rattle.data_shown.proofs.Living.{called-lives, data-stays}
 use Rattle.data_shown.proofs.Verifying.{Indicates, live-shows, isShown0, no-invokes, ShownAtOnce, opening-shows}
 use Rattle.data_shown.proofs.Openings.{requested-one, arrival-fits, opening, holder, turn, opened-now}
 use Rattle.data_shown.proofs.Held.{waits-called}
-
--- the class that is shown is the one that was tested
-same-class : (k : Kind) → wishOf k .class ≡ wantedOf k .class
-unfolding wishOf wantedOf
-same-class (Kind.Invoke gtr ttr rid v n u c) = refl
-same-class (Kind.Result gtr ttr rid) = refl
-same-class (Kind.Ack tve rid) = refl
-same-class (Kind.Abort t r) = refl
-same-class (Kind.SegInvoke gtr ttr rid p) = refl
-same-class (Kind.SegResult gtr ttr rid p) = refl
-same-class (Kind.Nack rid n l) = refl
-same-class (Kind.Wrong d) = refl
-same-class (Kind.Refused r) = refl
 
 -- a request shows no Invoke
 requested-shows-none : (class : ℕ) (r : Record) (g : Given) (s : Settings) (rows : List (List ℕ)) (v : Bool) → Indicates (openingTurn (requestedOf class) r g s rows) (Indication.Invoke v) → ⊥

@@ -131,7 +131,7 @@ either class Opening.ToVerify2 e = opens-one class Opening.ToVerify2 e refl (λ 
 either class Opening.UnknownTidve e = inl (quiet class Opening.UnknownTidve refl (λ r. refl) refl refl refl)
 
 -- the class that is judged is the class that is shown
-same-class : (k : Kind) → wantedOf k .class ≡ wishOf k .class
+pub same-class : (k : Kind) → wantedOf k .class ≡ wishOf k .class
 unfolding wantedOf wishOf
 same-class (Kind.Invoke gtr ttr rid version n up class) = refl
 same-class (Kind.Result gtr ttr rid) = refl

@@ -48,10 +48,6 @@ named-self role peer tid =
     both (eqb (roleNumber role) (roleNumber role)) _ (eq-eqb (roleNumber role) (roleNumber role) refl)
     (both (eqb peer peer) _ (eq-eqb peer peer refl) (eq-eqb tid tid refl))
 
--- a free record isn't live
-pub not-free : (r : Record) → Live r → r .state ≡ Free → ⊥
-not-free r h e = absurd (omega (arith, h, ap stateNumber e))
-
 -- a live record of a table that is called so
 pub record CalledAt (t : List ℕ) (n : Name) : Type 0 where
   pub at : ℕ

@@ -38,7 +38,8 @@ use Rattle.calls_laws.specs.Promise.{Call}
 use Rattle.history.specs.Trace.{Entry}
 use Rattle.history.specs.Tally.{Name, isNamed, lives, acceptsBy, toldOf, peerOf, adds, opens}
 use Rattle.history.specs.Moves.{nameOf, turnAdds, before, after, SameRecords, Silent, Opened, Once}
-use Rattle.moves.proofs.Names.{name, named-self, not-named, not-free, it-lives, none-lives}
+use Rattle.plans.proofs.Receives.{not-free}
+use Rattle.moves.proofs.Names.{name, named-self, not-named, it-lives, none-lives}
 use Rattle.moves.proofs.Shown.{ClassShown}
 use Rattle.moves.proofs.Roles.{InRole, opened-in-role}
 use Rattle.moves.proofs.Counted.{entryOf, turn-adds}
@@ -117,7 +118,7 @@ module _ (call : Call) (l : Lent) (opening : Opening) (h : Holder) (g : Given) (
       other-gone n d called = d (called-name n (recordAt (after entry) (h .place)) called ∙ (ap nameOf is-put ∙ is-named))
 
       called-own : CalledBy own (turn .after)
-      called-own = record { live = not-free (turn .after) live; role-is = ap (λ (n : Name). n .role) is-named; peer-is = ap (λ (n : Name). n .peer) is-named; tid-is = ap (λ (n : Name). n .tid) is-named }
+      called-own = record { live = not-free (turn .after .state) live; role-is = ap (λ (n : Name). n .role) is-named; peer-is = ap (λ (n : Name). n .peer) is-named; tid-is = ap (λ (n : Name). n .tid) is-named }
 
       pub lives-then : h .place < count t → lives (after entry) own ≡ true
       lives-then inside =

@@ -32,7 +32,8 @@ use Rattle.calls_laws.specs.Promise.{Call}
 use Rattle.history.specs.Trace.{Entry}
 use Rattle.history.specs.Tally.{Name, isNamed, lives, acceptsBy, toldOf, peerOf, adds}
 use Rattle.history.specs.Moves.{nameOf, turnAdds, after, Silent, Turned}
-use Rattle.moves.proofs.Names.{named-self, not-named, not-free, it-lives}
+use Rattle.plans.proofs.Receives.{not-free}
+use Rattle.moves.proofs.Names.{named-self, not-named, it-lives}
 use Rattle.moves.proofs.Shown.{class-shown}
 use Rattle.moves.proofs.Roles.{live-in-role, class-some}
 use Rattle.moves.proofs.Counted.{entryOf, turn-adds}
@@ -109,7 +110,7 @@ module _ (call : Call) (l : Lent) (place : ℕ) (event : Event) (g : Given) (c :
         }
 
     own-lives : lives t (nameOf was) ≡ true
-    own-lives = it-lives t (nameOf was) (record { at = place; inside = live .inside; called = record { live = not-free was (live .live); role-is = refl; peer-is = refl; tid-is = refl } })
+    own-lives = it-lives t (nameOf was) (record { at = place; inside = live .inside; called = record { live = not-free (was .state) (live .live); role-is = refl; peer-is = refl; tid-is = refl } })
 
     pub turned : Turned entry
     turned = record {
