@@ -9,7 +9,7 @@ if grep -rlw unsafe --include='*.rs' host | grep -vx host/wtp/src/ffi.rs; then
     exit 1
 fi
 
-[ -f target/staticlib/libwtp.a ] || rt staticlib wtp
+library
 mkdir -p "$CARGO_TARGET_DIR"
 log="$CARGO_TARGET_DIR/tests.log"
 status=0

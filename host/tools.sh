@@ -1,20 +1,38 @@
-# Sets `cargo` and its environment for programs over the library, which is x86-64 code: elsewhere cargo and rustc of the
-# distribution, whose standard library for x86-64 is a package too, a cross linker and an emulator. Sourced at the repository's root.
+# Sets `cargo` and its environment for Rust programs over the library, which is x86-64 code: elsewhere cargo and rustc of the
+# distribution, whose standard library for x86-64 is a package too. Sourced at the repository's root.
+. scripts/cross.sh
 cargo=cargo
 export CARGO_TARGET_DIR="$PWD/target/host"
 export CARGO_BUILD_TARGET=x86_64-unknown-linux-gnu
-if [ "$(uname -m)" != x86_64 ]; then
+if [ -n "$runner" ]; then
     cargo=/usr/bin/cargo
     export RUSTC=/usr/bin/rustc
-    export CARGO_TARGET_X86_64_UNKNOWN_LINUX_GNU_LINKER=x86_64-linux-gnu-gcc
-    export CARGO_TARGET_X86_64_UNKNOWN_LINUX_GNU_RUNNER=qemu-x86_64
-    if [ ! -x "$cargo" ] || [ ! -x "$RUSTC" ] || [ ! -d "/usr/lib/rustlib/$CARGO_BUILD_TARGET/lib" ] ||
-        ! command -v x86_64-linux-gnu-gcc >/dev/null || ! command -v qemu-x86_64 >/dev/null; then
+    export CARGO_TARGET_X86_64_UNKNOWN_LINUX_GNU_LINKER="$compiler"
+    export CARGO_TARGET_X86_64_UNKNOWN_LINUX_GNU_RUNNER="$runner"
+    if ! has "$cargo" "$RUSTC" || [ ! -d "/usr/lib/rustlib/$CARGO_BUILD_TARGET/lib" ]; then
         dpkg --add-architecture amd64
-        apt-get update -qq
-        apt-get install -y -qq cargo rustc libstd-rust-dev:amd64 gcc-x86-64-linux-gnu libc6-dev-amd64-cross qemu-user >/dev/null
+        fetch cargo rustc libstd-rust-dev:amd64
     fi
-elif ! command -v cargo >/dev/null; then
-    apt-get update -qq
-    apt-get install -y -qq cargo >/dev/null
+elif ! has cargo; then
+    fetch cargo
 fi
+programs="$CARGO_TARGET_DIR/$CARGO_BUILD_TARGET/release"
+
+# library: proves and builds the library where it isn't there or a crate is newer, with a line for each crate that has to be proved.
+library() {
+    local archive=target/staticlib/libwtp.a
+    if [ -f "$archive" ] && [ -z "$(find crates crates.txt -newer "$archive" -print -quit)" ]; then
+        return
+    fi
+    mkdir -p target
+    if ! rt staticlib wtp 2>&1 | tee target/library.log | sed -n '/^rt:/p' >&2; then
+        echo "the library isn't built: target/library.log says why" >&2
+        return 1
+    fi
+}
+
+# build CARGO-ARGUMENT...: builds programs over the library, into $programs.
+build() {
+    library
+    "$cargo" build --quiet --release --offline --manifest-path host/Cargo.toml "$@"
+}

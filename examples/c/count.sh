@@ -4,10 +4,7 @@ set -euo pipefail
 cd "$(dirname "$0")/../.."
 . examples/c/tools.sh
 
-if [ -z "$runner" ] && ! command -v valgrind >/dev/null; then
-    apt-get update -qq
-    apt-get install -y -qq valgrind >/dev/null
-fi
+[ -n "$runner" ] || has valgrind || fetch valgrind
 rt staticlib wtp
 build count
 

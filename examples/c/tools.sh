@@ -1,14 +1,5 @@
-# Sets `compiler` and `runner` for programs over the library, which is x86-64 code: elsewhere a cross compiler and an emulator.
-compiler=cc
-runner=""
-if [ "$(uname -m)" != x86_64 ]; then
-    compiler=x86_64-linux-gnu-gcc
-    runner=qemu-x86_64
-    if ! command -v "$compiler" >/dev/null || ! command -v "$runner" >/dev/null; then
-        apt-get update -qq
-        apt-get install -y -qq gcc-x86-64-linux-gnu libc6-dev-amd64-cross qemu-user >/dev/null
-    fi
-fi
+# What the scripts beside this file share. Sourced at the repository's root.
+. scripts/cross.sh
 
 # build NAME: compiles NAME.c beside this file and links it to the library as target/examples/NAME.
 build() {

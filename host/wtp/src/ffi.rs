@@ -86,9 +86,8 @@ pub fn fresh(table: &mut [u8], settings: &[u64], first_tid: u64) -> u64 {
     unsafe { wtp_fresh(table.as_mut_ptr(), table.len(), settings.as_ptr(), settings.len(), first_tid) }
 }
 
-pub fn request(lent: Lent, now: u64, peer: u64, class: u64, user_ack: bool, data: &[u8]) -> u64 {
-    let flag = u64::from(user_ack);
-    engine!(wtp_request, lent, now, peer, class, flag, data.as_ptr(), data.len())
+pub fn request(lent: Lent, now: u64, peer: u64, class: u64, user_ack: u64, data: &[u8]) -> u64 {
+    engine!(wtp_request, lent, now, peer, class, user_ack, data.as_ptr(), data.len())
 }
 
 pub fn answer(lent: Lent, now: u64, of: Record, exit: &[u8]) -> u64 {

@@ -8,7 +8,7 @@
 
 pub mod codec;
 #[allow(unsafe_code)]
-mod ffi;
+pub mod ffi;
 mod refused;
 mod settings;
 mod shown;

@@ -40,8 +40,8 @@ impl Table {
 
     /// Requests a transaction; the TID given to it is in the answer.
     pub fn request(&mut self, now: u64, peer: u16, class: u8, user_ack: bool, data: &[u8]) -> Result<Taken, Refused> {
-        let (peer, class) = (u64::from(peer), u64::from(class));
-        accepted(ffi::request(self.lent(), now, peer, class, user_ack, data))?;
+        let (peer, class, flag) = (u64::from(peer), u64::from(class), u64::from(user_ack));
+        accepted(ffi::request(self.lent(), now, peer, class, flag, data))?;
         self.take(&[], true)
     }
 
