@@ -1,4 +1,4 @@
-//! The wrapper's declarations and constants beside the header that it copies by hand.
+//! The header beside the proved source that it declares, and the wrapper's declarations and constants beside the header.
 
 use std::collections::BTreeMap;
 use wtp::codec::word;
@@ -6,6 +6,7 @@ use wtp::ffi;
 
 const HEADER: &str = include_str!("../../../include/wtp.h");
 const WRAPPER: &str = include_str!("../src/ffi.rs");
+const PROVED: &str = include_str!("../../../crates/wtp/src/lib.rt");
 
 /// Each function of the header with the Rust types of its parameters.
 fn declared_in_c() -> BTreeMap<String, Vec<String>> {
@@ -21,10 +22,27 @@ fn declared_in_rust() -> BTreeMap<String, Vec<String>> {
     declarations.map(|(_, rest)| function(rest, |parameter| parameter.split_once(": ").unwrap().1.to_string())).collect()
 }
 
+/// Each function that the library exports, its slices as C passes them: a pointer and a count.
+fn exported() -> BTreeMap<String, Vec<String>> {
+    let functions = PROVED.split("pub extern \"C\" fn wtp_").skip(1);
+    functions.map(|rest| function(rest, |parameter| passed(parameter.split_once(": ").unwrap().1))).collect()
+}
+
+fn passed(proved_type: &str) -> String {
+    match proved_type {
+        "&mut [u8]" => "*mut u8, usize".to_string(),
+        "&mut [u64]" => "*mut u64, usize".to_string(),
+        "&[u8]" => "*const u8, usize".to_string(),
+        "&[u64]" => "*const u64, usize".to_string(),
+        number => number.to_string(),
+    }
+}
+
 fn function(rest: &str, of_type: impl Fn(&str) -> String) -> (String, Vec<String>) {
     let (name, parameters) = rest.split_once('(').unwrap();
     let parameters = parameters.split_once(')').unwrap().0;
-    (name.trim().to_string(), parameters.split(',').map(of_type).collect())
+    let types = parameters.split(',').filter(|parameter| !parameter.trim().is_empty());
+    (name.trim().to_string(), types.map(of_type).collect())
 }
 
 fn in_rust(parameter: &str) -> String {
@@ -71,6 +89,14 @@ fn every_function_has_the_parameters_of_the_header() {
     let in_c = declared_in_c();
     assert_eq!(in_c.len(), 12);
     assert_eq!(in_c, declared_in_rust());
+}
+
+#[test]
+fn the_header_declares_what_the_library_exports() {
+    let joined = |functions: BTreeMap<String, Vec<String>>| -> BTreeMap<String, String> {
+        functions.into_iter().map(|(name, types)| (name, types.join(", "))).collect()
+    };
+    assert_eq!(joined(declared_in_c()), joined(exported()));
 }
 
 #[test]
