@@ -1,0 +1,62 @@
+//! Information items.
+
+use crate::bounds;
+use crate::pdu::{Malformed, Part};
+
+/// The identity of an Info item.
+const INFO: u8 = 1;
+
+#[derive(Clone, Copy, Debug, Default, PartialEq, Eq)]
+pub struct Item {
+    pub identity: u8,
+    pub long: bool,
+    pub data: Part,
+}
+
+#[derive(Clone, Copy, Debug, Default, PartialEq, Eq)]
+pub struct Items {
+    list: [Item; bounds::ITEMS],
+    count: usize,
+}
+
+impl Items {
+    pub fn iter(&self) -> impl Iterator<Item = &Item> {
+        self.list.iter().take(self.count)
+    }
+
+    pub fn count(&self) -> usize {
+        self.count
+    }
+
+    /// The data of the first Info item.
+    pub fn info(&self) -> Option<Part> {
+        self.iter().find(|item| item.identity == INFO).map(|item| item.data)
+    }
+}
+
+/// Walks the items from `at` on, if any follow; gives them and the place after the last one.
+pub fn parse(octets: &[u8], mut at: usize, mut follows: bool) -> Result<(Items, usize), Malformed> {
+    let mut items = Items::default();
+    while follows {
+        let place = items.list.get_mut(items.count).ok_or(Malformed::D4)?;
+        let (item, con) = parse_one(octets, at).ok_or(Malformed::D3)?;
+        *place = item;
+        items.count += 1;
+        at = item.data.end();
+        follows = con;
+    }
+    Ok((items, at))
+}
+
+/// The item at `at` and its CON bit, unless it runs past the end.
+fn parse_one(octets: &[u8], at: usize) -> Option<(Item, bool)> {
+    let first = *octets.get(at)?;
+    let long = first & 4 != 0;
+    let data = if long {
+        Part { start: at + 2, length: usize::from(*octets.get(at + 1)?) }
+    } else {
+        Part { start: at + 1, length: usize::from(first & 3) }
+    };
+    let item = Item { identity: first >> 3 & 15, long, data };
+    (data.end() <= octets.len()).then_some((item, first & 0x80 != 0))
+}

@@ -1,0 +1,169 @@
+//! A well-formed table in the octets that a caller lent.
+
+use crate::bounds;
+use crate::octets::{array_at, put_at};
+use crate::record::{Class, Name, Record, Role, EXIT, OCTETS};
+
+pub const HEADER: usize = 624;
+pub const GEN_TID: usize = 8;
+pub const RCR_MAX: usize = 10;
+pub const AEC_MAX: usize = 11;
+/// A, W, nine R of class 1 and nine R of class 2, four octets each.
+pub const INTERVALS: usize = 12;
+const SPARE: usize = 92;
+const CACHE: usize = 112;
+
+pub struct Table<'a> {
+    octets: &'a mut [u8],
+}
+
+/// How many records a table of this size has, if it is one of 1 to 48 records.
+pub fn records_in(octets: usize) -> Option<usize> {
+    let records = octets.checked_sub(HEADER)?;
+    (records % OCTETS == 0 && (1..=bounds::RECORDS).contains(&(records / OCTETS))).then_some(records / OCTETS)
+}
+
+impl<'a> Table<'a> {
+    /// The table, if it has a right size and is well formed.
+    pub fn open(octets: &'a mut [u8]) -> Option<Table<'a>> {
+        records_in(octets.len())?;
+        let table = Table { octets };
+        (table.header_is_sound() && table.records_are_sound()).then_some(table)
+    }
+
+    fn header_is_sound(&self) -> bool {
+        let mut intervals = self.octets[INTERVALS..SPARE].chunks_exact(4).map(|four| u32::from_le_bytes(array_at(four, 0)));
+        let cached = self.octets[CACHE..HEADER].chunks_exact(2).map(|two| u16::from_le_bytes(array_at(two, 0)));
+        self.clock() <= bounds::TIME
+            && self.gen_tid() <= bounds::TID
+            && self.rcr_max() <= bounds::COUNTER
+            && self.aec_max() <= bounds::COUNTER
+            && intervals.all(|interval| (1..=bounds::INTERVAL).contains(&interval))
+            && self.octets[SPARE..CACHE] == [0; CACHE - SPARE]
+            && cached.fold(0, u16::max) <= bounds::TID + 1
+    }
+
+    /// Free records are zero, live ones have their fields in range and names of their own.
+    fn records_are_sound(&self) -> bool {
+        let mut names = [0; bounds::RECORDS];
+        let mut live = 0;
+        for octets in self.octets[HEADER..].chunks_exact(OCTETS) {
+            if octets[0] == 0 {
+                if *octets != [0; OCTETS] {
+                    return false;
+                }
+                continue;
+            }
+            match Record::decode(octets) {
+                Some(record) if record.is_sound(octets, self.rcr_max(), self.aec_max()) => {
+                    names[live] = packed(record.name());
+                    live += 1;
+                }
+                _ => return false,
+            }
+        }
+        let names = &mut names[..live];
+        names.sort_unstable();
+        names.windows(2).all(|pair| pair[0] != pair[1])
+    }
+
+    pub fn records(&self) -> usize {
+        (self.octets.len() - HEADER) / OCTETS
+    }
+
+    /// The live records with their places.
+    pub fn live(&self) -> impl Iterator<Item = (usize, Record)> + '_ {
+        let octets = self.octets[HEADER..].chunks_exact(OCTETS).enumerate();
+        octets.filter_map(|(place, octets)| Record::decode(octets).map(|record| (place, record)))
+    }
+
+    pub fn find(&self, name: Name) -> Option<(usize, Record)> {
+        self.live().find(|(_, record)| record.name() == name)
+    }
+
+    pub fn has_initiator(&self, tid: u16) -> bool {
+        self.live().any(|(_, record)| record.state.role() == Role::Initiator && record.tid == tid)
+    }
+
+    /// The lowest free record's place.
+    pub fn free_place(&self) -> Option<usize> {
+        self.octets[HEADER..].chunks_exact(OCTETS).position(|octets| octets[0] == 0)
+    }
+
+    fn octets_of(&mut self, place: usize) -> &mut [u8] {
+        &mut self.octets[HEADER + OCTETS * place..][..OCTETS]
+    }
+
+    pub fn put(&mut self, place: usize, record: &Record) {
+        record.encode(self.octets_of(place));
+    }
+
+    pub fn free(&mut self, place: usize) {
+        self.octets_of(place).fill(0);
+    }
+
+    pub fn exit(&self, place: usize, length: u8) -> &[u8] {
+        &self.octets[HEADER + OCTETS * place + EXIT..][..length.into()]
+    }
+
+    /// Octets past the exit information stay.
+    pub fn put_exit(&mut self, place: usize, exit: &[u8]) {
+        put_at(self.octets_of(place), EXIT, exit);
+    }
+
+    pub fn clock(&self) -> u64 {
+        u64::from_le_bytes(array_at(self.octets, 0))
+    }
+
+    pub fn set_clock(&mut self, now: u64) {
+        put_at(self.octets, 0, &now.to_le_bytes());
+    }
+
+    pub fn gen_tid(&self) -> u16 {
+        u16::from_le_bytes(array_at(self.octets, GEN_TID))
+    }
+
+    pub fn set_gen_tid(&mut self, tid: u16) {
+        put_at(self.octets, GEN_TID, &tid.to_le_bytes());
+    }
+
+    pub fn rcr_max(&self) -> u8 {
+        self.octets[RCR_MAX]
+    }
+
+    pub fn aec_max(&self) -> u8 {
+        self.octets[AEC_MAX]
+    }
+
+    fn interval(&self, which: usize) -> u64 {
+        u32::from_le_bytes(array_at(self.octets, INTERVALS + 4 * which)).into()
+    }
+
+    pub fn interval_a(&self) -> u64 {
+        self.interval(0)
+    }
+
+    pub fn interval_w(&self) -> u64 {
+        self.interval(1)
+    }
+
+    pub fn interval_r(&self, class: Class, rcr: u8) -> u64 {
+        let row = match class {
+            Class::One => 2,
+            Class::Two => 11,
+        };
+        self.interval(row + usize::from(rcr))
+    }
+
+    pub fn last_tid(&self, peer: u8) -> Option<u16> {
+        u16::from_le_bytes(array_at(self.octets, CACHE + 2 * usize::from(peer))).checked_sub(1)
+    }
+
+    pub fn set_last_tid(&mut self, peer: u8, tid: u16) {
+        put_at(self.octets, CACHE + 2 * usize::from(peer), &(tid + 1).to_le_bytes());
+    }
+}
+
+fn packed(name: Name) -> u32 {
+    (name.role as u32) << 23 | u32::from(name.peer) << 15 | u32::from(name.tid)
+}

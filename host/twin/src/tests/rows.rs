@@ -1,0 +1,124 @@
+//! Every row is reached: each state with each event under each condition, then what names no record, and the refusals.
+
+use super::tables::live;
+use super::*;
+use crate::Row;
+use std::collections::BTreeSet;
+
+const PEER: u64 = 9;
+
+/// A table whose one record is in a state and due, under conditions: all flags clear or set, counters at 0 or at their
+/// maxima with exit information kept, nothing cached or the record's own TID.
+fn ends_in(state: u8) -> Vec<End> {
+    let mut ends = Vec::new();
+    for (flags, counters, cached) in (0..8).map(|bits| (bits & 1 != 0, bits & 2 != 0, bits & 4 != 0)) {
+        let mut end = End::new(1, 0);
+        let record = end.record(0);
+        record.copy_from_slice(&live(state));
+        record[6] = if flags { 15 } else { 0 };
+        record[8] = 1;
+        if counters {
+            record[4..6].copy_from_slice(&[2, 1]);
+            record[7] = 3;
+        }
+        if cached {
+            end.cache(PEER as usize, 5);
+        }
+        ends.push(end);
+    }
+    ends
+}
+
+/// PDUs of every type with and without their flags, TID 5, in both directions.
+fn pdus() -> Vec<Vec<u8>> {
+    let mut pdus = vec![vec![0x0E], vec![0x0E, 0]];
+    for top in [0, 0x80] {
+        for first in [0x00, 0x28, 0x30, 0x38, 0x20] {
+            pdus.push(vec![first, top, 5, 0]);
+        }
+        for first in [0x10, 0x11, 0x12, 0x13, 0x18, 0x19, 0x1C, 0x1D] {
+            pdus.push(vec![first, top, 5]);
+        }
+        for (first, fourth) in
+            [(0x0E, 0x02), (0x0F, 0x02), (0x0C, 0x02), (0x0E, 0x42), (0x0E, 0), (0x0C, 0), (0x0E, 0x40), (0x0E, 3)]
+        {
+            pdus.push(vec![first, top, 5, fourth]);
+        }
+    }
+    pdus
+}
+
+fn reach_records(reached: &mut BTreeSet<Row>) {
+    let pdus = pdus();
+    for state in 1..=11 {
+        let name = [u64::from(state > 4), PEER, 5];
+        for end in ends_in(state) {
+            reached.extend(pdus.iter().map(|pdu| end.clone().receive(1, PEER, pdu).row));
+            reached.insert(end.clone().timer(1).row);
+            reached.insert(end.clone().answer(1, name, &[]).row);
+            reached.insert(end.clone().answer(1, name, &[1]).row);
+            reached.insert(end.clone().result(1, name, &[1]).row);
+            reached.insert(end.clone().abort(1, name, 1).row);
+        }
+    }
+}
+
+fn reach_without_record(reached: &mut BTreeSet<Row>) {
+    let empty = End::new(1, 0);
+    let mut cached = empty.clone();
+    cached.cache(PEER as usize, 4);
+    let mut old = empty.clone();
+    old.cache(PEER as usize, 5);
+    let mut full = empty.clone();
+    full.request(0, PEER, 1, 0, &[]);
+    for end in [empty, cached, old, full] {
+        for mut pdu in pdus() {
+            reached.insert(end.clone().receive(1, PEER, &pdu).row);
+            pdu.resize(4 + 1025, 0);
+            reached.insert(end.clone().receive(1, PEER, &pdu).row);
+        }
+        for class in 0..3 {
+            reached.insert(end.clone().request(1, PEER, class, 0, &[]).row);
+        }
+        reached.insert(end.clone().timer(1).row);
+    }
+}
+
+fn reach_refusals(reached: &mut BTreeSet<Row>) {
+    let good = End::new(1, 0);
+    let mut damaged = good.clone();
+    damaged.table[10] = 9;
+    for (end, now, peer) in [(&damaged, 0, 0), (&good, u64::MAX, 0), (&good, 0, 256), (&good, 0, 0)] {
+        let name = [RESPONDER, peer, 5];
+        for length in [0, 2000] {
+            let octets = vec![0; length];
+            reached.insert(end.clone().request(now, peer, 3, 0, &octets).row);
+            reached.insert(end.clone().answer(now, name, &octets).row);
+            reached.insert(end.clone().result(now, name, &octets).row);
+            reached.insert(end.clone().receive(now, peer, &octets).row);
+        }
+        reached.insert(end.clone().abort(now, name, 0).row);
+        reached.insert(end.clone().timer(now).row);
+    }
+    let mut taken = good.clone();
+    taken.request(0, PEER, 1, 0, &[]);
+    reached.insert(taken.clone().request(0, PEER, 1, 0, &[]).row);
+    taken.table[8] = 0;
+    reached.insert(taken.request(0, PEER, 1, 0, &[]).row);
+}
+
+#[test]
+fn every_row_is_reached() {
+    let mut reached = BTreeSet::new();
+    reach_records(&mut reached);
+    reach_without_record(&mut reached);
+    reach_refusals(&mut reached);
+    let missed: Vec<&str> = Row::ALL.iter().filter(|row| !reached.contains(row)).map(|row| row.name()).collect();
+    assert_eq!(missed, [""; 0]);
+}
+
+#[test]
+fn each_row_has_a_name_of_its_own() {
+    let names: BTreeSet<&str> = Row::ALL.iter().map(|row| row.name()).collect();
+    assert_eq!(names.len(), Row::ALL.len());
+}
