@@ -1,0 +1,48 @@
+//! Talks to a WAP gateway as initiator: Connect, Get, Disconnect.
+
+#![deny(unsafe_code)]
+
+use interop::{browse, Wanted};
+use std::process::ExitCode;
+
+const HELP: &str = "\
+browse: a conversation with a WAP gateway over the engine, as initiator
+
+usage: browse GATEWAY BASE TEXT
+  GATEWAY   address and port of the gateway's WSP over WTP, as 127.0.0.1:9201
+  BASE      URL whose /text has the text TEXT, and /slow the same after ten seconds, as http://127.0.0.1:8080
+  TEXT      what the pages hold
+
+Prints every PDU with the seconds since the beginning, > sent and < received, and each case that is checked.
+The last line counts them. Exit status: 0 all passed; 1 one failed; 2 wrong arguments.
+
+example: browse 127.0.0.1:9201 http://127.0.0.1:8080 '12.5 ug/m3'
+";
+
+fn main() -> ExitCode {
+    let arguments: Vec<String> = std::env::args_os().skip(1).map(|argument| argument.to_string_lossy().into()).collect();
+    match arguments.iter().map(String::as_str).collect::<Vec<_>>()[..] {
+        ["--help" | "-h"] => {
+            print!("{HELP}");
+            ExitCode::SUCCESS
+        }
+        [gateway, base, text] => finish(browse(&Wanted { gateway, base, text })),
+        _ => {
+            eprintln!("browse: three arguments are needed; browse --help says which");
+            ExitCode::from(2)
+        }
+    }
+}
+
+fn finish(count: Result<interop::Count, String>) -> ExitCode {
+    match count {
+        Ok(count) => {
+            println!("{} passed, {} failed", count.passed, count.failed);
+            ExitCode::from(u8::from(count.failed > 0))
+        }
+        Err(why) => {
+            println!("FAILED: {why}\n0 passed, 1 failed");
+            ExitCode::FAILURE
+        }
+    }
+}

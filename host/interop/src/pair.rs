@@ -1,0 +1,113 @@
+//! Two ends of a link, without a link between them: the caller carries the PDUs.
+
+use wtp::{Name, Refused, Role, Settings, Table, Taken};
+
+const PEER: u16 = 3;
+/// Longer than the intervals of retransmission and acknowledgement, shorter than that of WAIT TIMEOUT.
+const STEP: u64 = 1_000;
+const SETTINGS: Settings = Settings { rcr_max: 4, aec_max: 1, a: 100, w: 1_000_000, r_class_1: [100; 9], r_class_2: [100; 9] };
+
+/// A PDU that was sent, or why none was.
+pub type Step = Result<Vec<u8>, String>;
+
+/// An initiator and a responder with one transaction between them, or none.
+pub struct Pair {
+    initiator: Table,
+    responder: Table,
+    tid: u16,
+    now: u64,
+}
+
+impl Pair {
+    /// Both tables are fresh; `tid` is that of the transaction.
+    pub fn new(tid: u16) -> Result<Pair, String> {
+        let table = || Table::fresh(2, &SETTINGS, tid).map_err(|refused| refused.to_string());
+        Ok(Pair { initiator: table()?, responder: table()?, tid, now: 0 })
+    }
+
+    pub fn request(&mut self, class: u8, user_ack: bool, data: &[u8]) -> Step {
+        sent(self.initiator.request(self.now, PEER, class, user_ack, data))
+    }
+
+    /// Requests, verifies the TID, and ends where the responder's user is shown the Invoke; gives the Invoke.
+    pub fn invoked(&mut self, class: u8, user_ack: bool) -> Step {
+        let invoke = self.request(class, user_ack, b"sampler 7")?;
+        let tidve = self.arrives(Role::Responder, &invoke)?;
+        let tidok = self.arrives(Role::Initiator, &tidve)?;
+        self.arrives_silently(Role::Responder, &tidok)?;
+        Ok(invoke)
+    }
+
+    /// Ends where the initiator's user is shown the result; gives the Result.
+    pub fn resulted(&mut self, user_ack: bool) -> Step {
+        self.invoked(2, user_ack)?;
+        let result = self.result(b"12.5")?;
+        self.arrives_silently(Role::Initiator, &result)?;
+        Ok(result)
+    }
+
+    /// A PDU arrives at this end, which sends one.
+    pub fn arrives(&mut self, at: Role, pdu: &[u8]) -> Step {
+        let now = self.now;
+        sent(self.end(at).receive(now, PEER, pdu))
+    }
+
+    /// A PDU arrives at this end, which sends none.
+    pub fn arrives_silently(&mut self, at: Role, pdu: &[u8]) -> Result<(), String> {
+        let now = self.now;
+        unsent(self.end(at).receive(now, PEER, pdu))
+    }
+
+    /// The timer fires the transaction at this end, which sends a PDU.
+    pub fn timer(&mut self, at: Role) -> Step {
+        sent(self.fire(at))
+    }
+
+    /// The timer fires the transaction at this end, which only waits once more.
+    pub fn timer_silently(&mut self, at: Role) -> Result<(), String> {
+        unsent(self.fire(at))
+    }
+
+    pub fn answer(&mut self, at: Role, exit_information: &[u8]) -> Step {
+        let (now, of) = (self.now, self.name(at));
+        sent(self.end(at).answer(now, of, exit_information))
+    }
+
+    pub fn result(&mut self, data: &[u8]) -> Step {
+        let (now, of) = (self.now, self.name(Role::Responder));
+        sent(self.responder.result(now, of, data))
+    }
+
+    pub fn abort(&mut self, at: Role, reason: u8) -> Step {
+        let (now, of) = (self.now, self.name(at));
+        sent(self.end(at).abort(now, of, reason))
+    }
+
+    fn fire(&mut self, at: Role) -> Result<Taken, Refused> {
+        self.now = self.now.saturating_add(STEP);
+        let now = self.now;
+        self.end(at).timer(now)
+    }
+
+    fn end(&mut self, at: Role) -> &mut Table {
+        match at {
+            Role::Initiator => &mut self.initiator,
+            Role::Responder => &mut self.responder,
+        }
+    }
+
+    fn name(&self, role: Role) -> Name {
+        Name { role, peer: PEER, tid: self.tid }
+    }
+}
+
+fn sent(taken: Result<Taken, Refused>) -> Step {
+    taken.map_err(|refused| refused.to_string())?.sent.ok_or_else(|| "nothing was sent".to_string())
+}
+
+fn unsent(taken: Result<Taken, Refused>) -> Result<(), String> {
+    match taken.map_err(|refused| refused.to_string())?.sent {
+        None => Ok(()),
+        Some(pdu) => Err(format!("{} was sent", wtpdump::spaced(&pdu))),
+    }
+}

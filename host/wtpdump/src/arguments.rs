@@ -1,0 +1,113 @@
+//! What wtpdump is asked for.
+
+use crate::input::Source;
+use crate::words::Length;
+use std::ffi::OsString;
+
+pub const HELP: &str = "\
+wtpdump: WTP datagrams in words, one line a PDU
+
+usage: wtpdump [switches] HEX...
+       wtpdump [switches] FILE
+       wtpdump [switches] -            (standard input, read to its end)
+
+An argument of hex digits is one datagram: two digits an octet; spaces, colons and 0x are allowed.
+Anything else is a file (write ./cafe for a file whose name is hex). What a file is, its content tells:
+  pcap     microseconds or nanoseconds, either byte order
+  pcapng   enhanced and simple packet blocks, either byte order: what tshark and Wireshark write
+  text     one datagram a line in hex, # begins a comment, a comma another datagram:
+           also what tshark -T fields -e udp.payload (or -e data) writes
+A hexdump with offsets (tshark -x) isn't read: write a capture with tshark -w FILE.
+In a capture: Ethernet (with VLAN tags), raw IP, Linux cooked v1 and v2, BSD loopback; IPv4 and IPv6; UDP.
+Fragments of IP packets and frames that the capture cut short are named and passed over; what isn't UDP is passed over.
+
+switches:
+  --port N   of a capture only datagrams from or to UDP port N; may be repeated (default: all ports)
+  --all      all octets of data (default: the first 32)
+  --help     this text
+  --         what follows is no switch
+
+A line has the number of the argument, line or frame; in a capture the seconds since the first datagram and both ends;
+which PDU of how many, where octet 0 begins the datagram; its octets in the datagram; and the PDU in words.
+A malformed PDU has its D and the octet at which the rule fails: the first octet of an item that runs past the end, the end
+where an octet is missing. A datagram that can't be separated has number 11 and the place. Octets are counted from 0.
+Where there is more than one datagram, a last line counts them.
+
+exit status: 0 good, malformed PDUs included; 1 something can't be read; 2 wrong arguments
+
+example: wtpdump 0E000502 '00 03 18 80 05 04 20 80 06 08'
+";
+
+#[derive(Debug, Clone, PartialEq, Eq)]
+pub struct Asked {
+    pub source: Source,
+    pub ports: Vec<u16>,
+    pub length: Length,
+}
+
+/// None where help is asked for.
+pub fn read(arguments: impl Iterator<Item = OsString>) -> Result<Option<Asked>, String> {
+    let (mut ports, mut length, mut operands) = (Vec::new(), Length::Short, Vec::new());
+    let mut arguments = arguments;
+    while let Some(argument) = arguments.next() {
+        match argument.to_str() {
+            Some("--help" | "-h") => return Ok(None),
+            Some("--all") => length = Length::All,
+            Some("--port") => ports.push(port(&arguments.next().ok_or("--port needs a number")?.to_string_lossy())?),
+            Some("--") => operands.extend(arguments.by_ref()),
+            Some(switch) if switch.starts_with("--port=") => ports.push(port(switch.trim_start_matches("--port="))?),
+            Some(switch) if switch.starts_with('-') && switch != "-" => return Err(format!("no switch {switch}")),
+            _ => operands.push(argument),
+        }
+    }
+    match Source::of(&operands) {
+        Some(source) => Ok(Some(Asked { source, ports, length })),
+        None if operands.is_empty() => Err("hex or a file is missing".to_string()),
+        None => Err("either hex datagrams or one file; one of these arguments is no hex".to_string()),
+    }
+}
+
+fn port(text: &str) -> Result<u16, String> {
+    text.parse().map_err(|_| format!("--port needs a number of 0 to 65535, and not {text:?}"))
+}
+
+#[cfg(test)]
+mod tests {
+    use super::*;
+
+    fn asked(arguments: &[&str]) -> Result<Option<Asked>, String> {
+        read(arguments.iter().map(OsString::from))
+    }
+
+    #[test]
+    fn switches_may_stand_anywhere() {
+        let expected = Asked { source: Source::File("a.pcap".into()), ports: vec![9201, 9203], length: Length::All };
+        assert_eq!(asked(&["--port", "9201", "a.pcap", "--port=9203", "--all"]), Ok(Some(expected)));
+    }
+
+    #[test]
+    fn help_is_given_whatever_else_is_asked() {
+        assert_eq!(asked(&["a.pcap", "--help"]), Ok(None));
+    }
+
+    #[test]
+    fn what_follows_two_dashes_is_no_switch() {
+        let source = asked(&["--", "--all"]).unwrap().unwrap().source;
+        assert_eq!(source, Source::File("--all".into()));
+    }
+
+    #[test]
+    fn wrong_arguments_are_named() {
+        for (arguments, word) in [
+            (&["--port"][..], "--port"),
+            (&["--port", "65536", "0E"], "65536"),
+            (&["--port=x", "0E"], "x"),
+            (&["--wide", "0E"], "--wide"),
+            (&[], "missing"),
+            (&["0E", "a.pcap"], "one file"),
+        ] {
+            let wrong = asked(arguments).unwrap_err();
+            assert!(wrong.contains(word), "{wrong}");
+        }
+    }
+}
