@@ -1,22 +1,29 @@
 #!/usr/bin/env bash
-# Runs the tests of the Rust code over the proved library, which is built first where it isn't there; the last line counts them.
+# Tests the Rust code over the proved library, the programs from outside, and the samples of docs/OUTCOMES.md; the last line counts the cases.
 set -euo pipefail
 cd "$(dirname "$0")/.."
 . host/tools.sh
+. scripts/cases.sh
 
-if grep -rlw unsafe --include='*.rs' host | grep -vx host/wtp/src/ffi.rs; then
-    echo "unsafe outside host/wtp/src/ffi.rs"
-    exit 1
-fi
+only_there() {
+    ! grep -rlw unsafe --include='*.rs' host | grep -vxE 'host/(wtp/src/ffi|link/src/interrupt)\.rs'
+}
+check "unsafe only around the library's calls and around signals" only_there
 
 library
-mkdir -p "$CARGO_TARGET_DIR"
-log="$CARGO_TARGET_DIR/tests.log"
-status=0
-"$cargo" test --manifest-path host/Cargo.toml --offline --workspace --tests --no-fail-fast 2>&1 | tee "$log" || status=$?
+logs="$CARGO_TARGET_DIR/tests"
+mkdir -p "$logs"
 
 # What didn't build, or died before it could count, is a failure too.
+status=0
+"$cargo" test --manifest-path host/Cargo.toml --offline --workspace --tests --no-fail-fast 2>&1 | tee "$logs/cargo.log" || status=$?
 awk -v status="$status" '
     /^test result:/ { passed += $4; failed += $6 }
-    END { printf "%d passed, %d failed\n", passed, failed == 0 && status != 0 ? 1 : failed }' "$log"
-exit "$status"
+    END { printf "%d passed, %d failed\n", passed, failed == 0 && status != 0 ? 1 : failed }' "$logs/cargo.log" >"$logs/cargo.count"
+count_from "$logs/cargo.count"
+
+for script in programs samples; do
+    "host/tests/$script.sh" 2>&1 | tee "$logs/$script.log" || true
+    count_from "$logs/$script.log"
+done
+finish

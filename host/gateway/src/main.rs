@@ -1,0 +1,117 @@
+//! A laboratory gateway over UDP: it answers each request for a sampler from a file.
+
+#![deny(unsafe_code)]
+
+use link::args::{Given, Switches};
+use link::book::Book;
+use link::common::{self, Common};
+use link::desk::Desk;
+use link::post::{self, Heard, Post};
+use link::step::Step;
+use link::{interrupt, say};
+
+const HELP: &str = "\
+Usage: gateway [SWITCHES] RESULTS.csv
+
+Answers readers over UDP from a file, until Ctrl-C. The first line says which address it listens on; then comes a line
+for each event, and a summary at the end.
+
+RESULTS.csv has the header sampler,answer,detail. The answers, and what they do:
+  value    the detail is the result, such as NO2 41.2 ug/m3
+  empty    a result with no data: the laboratory has nothing to report
+  abort    the transaction is aborted by the user; the detail is the reason, 0 to 255
+  silent   the gateway's user never answers
+  unheard  the Invoke is thrown away, as if it had never come
+  damaged  the Result goes out malformed
+A sampler that isn't in the file is aborted by the user with reason 10.
+There are numbers for 256 readers (addresses) in one run; a further one is refused, with a line that says so.
+
+Switches, with their defaults:
+  --listen ADDRESS     address and port; port 0 takes a free one (127.0.0.1:9201)
+  --patience MS        how long a transaction may wait where the protocol has no timer, 1 to 86400000 (30000)
+  --quiet              no line for an event";
+
+const HELP_END: &str = "  --help               this text
+
+Exit status: 0 stopped by Ctrl-C or SIGTERM, 2 wrong arguments, a wrong file or an address that can't be used.
+
+Example: gateway --listen 127.0.0.1:9201 --loss 10 --delay 50 host/examples/results.csv";
+
+const RECORDS: u64 = 48;
+const VALUED: [&str; 2] = ["--listen", "--patience"];
+
+struct Gateway {
+    post: Post,
+    desk: Desk,
+    quiet: bool,
+}
+
+fn main() {
+    std::process::exit(match prepare() {
+        Ok(Some(gateway)) => gateway.run(),
+        Ok(None) => 0,
+        Err(what) => say::refuse("gateway", &what),
+    });
+}
+
+/// None where only help was asked for.
+fn prepare() -> Result<Option<Gateway>, String> {
+    let switches = Switches { valued: &[&common::VALUED[..], &VALUED].concat(), flags: &["--quiet", "--help"] };
+    let given = Given::of(std::env::args_os().skip(1), &switches)?;
+    if given.has("--help") {
+        say::out(&format!("{HELP}\n{}\n{HELP_END}", common::HELP));
+        return Ok(None);
+    }
+    let common = Common::of(&given, RECORDS)?;
+    let patience = given.number("--patience", 30_000, 1..=86_400_000)?;
+    let address = post::address(given.text("--listen").unwrap_or(common::DEFAULT_ADDRESS))?;
+    let book = Book::read(given.one_name("RESULTS.csv")?)?;
+    let samplers = book.len();
+    let desk = Desk::new(common.table()?, book, patience);
+    let post = Post::bind(address, common.line())?;
+    say::out(&format!("gateway: listening on {} with {samplers} samplers", post.local()?));
+    Ok(Some(Gateway { post, desk, quiet: given.has("--quiet") }))
+}
+
+impl Gateway {
+    fn run(mut self) -> i32 {
+        interrupt::watch();
+        while !interrupt::stopped() {
+            let step = self.desk.tick(self.post.now());
+            self.carry_out(step);
+            match self.post.hear() {
+                Heard::Datagram(packet) => {
+                    let step = self.desk.datagram(self.post.now(), packet.peer, &packet.octets);
+                    self.carry_out(step);
+                }
+                Heard::Nothing => {}
+                Heard::Trouble(line) => self.log(&[line]),
+            }
+        }
+        let step = self.desk.interrupt(self.post.now());
+        self.carry_out(step);
+        let log = self.post.empty_line();
+        self.log(&log);
+        say::out(&format!(
+            "gateway: {}\ngateway: {}",
+            self.desk.tally().to_string().replace('\n', "\ngateway: "),
+            self.post.line()
+        ));
+        0
+    }
+
+    fn carry_out(&mut self, step: Step) {
+        let log = self.post.carry_out(step);
+        self.log(&log);
+    }
+
+    fn log(&self, lines: &[String]) {
+        if self.quiet {
+            return;
+        }
+        let now = self.post.now();
+        for line in lines {
+            say::out(&format!("{:>7}.{:03}  {line}", now / 1_000, now % 1_000));
+        }
+    }
+}

@@ -1,0 +1,97 @@
+//! The switches that reader and gateway share.
+
+use crate::args::Given;
+use crate::dice::Dice;
+use crate::line::{Faults, Line};
+use wtp::{Settings, Table};
+
+pub const DEFAULT_ADDRESS: &str = "127.0.0.1:9201";
+pub const VALUED: [&str; 7] = ["--records", "--retries", "--interval", "--loss", "--duplicate", "--delay", "--seed"];
+
+pub const HELP: &str = "  --records N          records of the table, 1 to 48: so many transactions at a time (8; a gateway 48)
+  --retries N          RCR_MAX, 0 to 8: how often a PDU is sent again (8)
+  --interval MS        R and A, 1 to 60000: how long an answer is waited for; W is (retries + 1) of them (350)
+  --loss PERCENT       so many of the datagrams sent are lost, 0 to 100 (0)
+  --duplicate PERCENT  so many are sent twice, 0 to 100 (0)
+  --delay MS           each is delayed by a random time up to this, 0 to 60000: one may overtake another (0)
+  --seed N             seed of loss, duplication, delay and first TID (1)";
+
+const AEC_MAX: u64 = 2;
+const LARGEST_TID: u64 = 32_767;
+
+pub struct Common {
+    records: u64,
+    retries: u64,
+    interval: u64,
+    faults: Faults,
+    seed: u64,
+}
+
+impl Common {
+    pub fn of(given: &Given, default_records: u64) -> Result<Common, String> {
+        let faults = Faults {
+            loss: given.number("--loss", 0, 0..=100)?,
+            duplicate: given.number("--duplicate", 0, 0..=100)?,
+            delay: given.number("--delay", 0, 0..=60_000)?,
+        };
+        Ok(Common {
+            records: given.number("--records", default_records, 1..=48)?,
+            retries: given.number("--retries", 8, 0..=8)?,
+            interval: given.number("--interval", 350, 1..=60_000)?,
+            faults,
+            seed: given.number("--seed", 1, 0..=u64::MAX)?,
+        })
+    }
+
+    /// W, and how long a PDU is repeated until RCR is used up.
+    pub fn last_repeat(&self) -> u64 {
+        self.interval.saturating_mul(self.retries.saturating_add(1))
+    }
+
+    pub fn table(&self) -> Result<Table, String> {
+        let rows = [self.interval; 9];
+        let settings = Settings {
+            rcr_max: self.retries,
+            aec_max: AEC_MAX,
+            a: self.interval,
+            w: self.last_repeat(),
+            r_class_1: rows,
+            r_class_2: rows,
+        };
+        let first_tid = u16::try_from(Dice::new(self.seed).up_to(LARGEST_TID)).unwrap_or_default();
+        Table::fresh(self.records, &settings, first_tid).map_err(|why| format!("the settings were refused: {why}"))
+    }
+
+    pub fn line(&self) -> Line {
+        Line::new(self.faults, self.seed)
+    }
+}
+
+#[cfg(test)]
+mod tests {
+    use super::*;
+    use crate::args::Switches;
+
+    fn common(args: &[&str]) -> Result<Common, String> {
+        let switches = Switches { valued: &VALUED, flags: &[] };
+        Common::of(&Given::of(args.iter().map(Into::into), &switches)?, 8)
+    }
+
+    #[test]
+    fn the_library_takes_the_settings_at_either_end_of_their_range() {
+        let least = common(&["--records", "1", "--retries", "0", "--interval", "1", "--seed", "0"]).unwrap();
+        assert!(least.table().is_ok() && least.last_repeat() == 1);
+        let most = ["--records", "48", "--retries", "8", "--interval", "60000", "--seed", "18446744073709551615"];
+        assert!(common(&most).unwrap().table().is_ok());
+        assert!(common(&[]).unwrap().table().is_ok());
+    }
+
+    #[test]
+    fn a_value_out_of_range_is_refused() {
+        for (switch, value) in
+            [("--records", "0"), ("--records", "49"), ("--retries", "9"), ("--interval", "0"), ("--loss", "101")]
+        {
+            assert!(common(&[switch, value]).is_err(), "{switch} {value}");
+        }
+    }
+}

@@ -1,0 +1,28 @@
+//! What reader and gateway share.
+//!
+//! [`round::Round`] is a reader and [`desk::Desk`] a gateway, both without socket and clock: they are given the time and
+//! the datagrams that came, and give back a [`step::Step`]. [`line::Line`] loses, doubles and delays what is sent, and
+//! [`post::Post`] is the UDP socket. What was received, and what it means, the proved library says.
+
+#![deny(unsafe_code)]
+
+pub mod args;
+pub mod book;
+pub mod common;
+pub mod csv;
+pub mod desk;
+pub mod dice;
+mod head;
+#[allow(unsafe_code)]
+pub mod interrupt;
+pub mod line;
+mod open;
+pub mod outcome;
+pub mod payload;
+pub mod peers;
+pub mod post;
+pub mod reason;
+pub mod round;
+pub mod say;
+pub mod step;
+pub mod tally;

@@ -1,0 +1,169 @@
+//! A reader's round: a class 2 request for each sampler, several at a time, until each has its outcome.
+
+use crate::outcome::{Aborted, Cause, Outcome, Why};
+use crate::payload::Sampler;
+use crate::reason;
+use crate::step::Step;
+use wtp::{Name, Refused, Role, Shown, Table};
+
+/// The number that a reader has for its gateway.
+pub const GATEWAY: u16 = 0;
+
+/// How a round is carried out; times are in milliseconds.
+#[derive(Debug, Clone, Copy)]
+pub struct Manner {
+    /// Ask for the user's acknowledgement: then no hold-on comes for a user who says nothing.
+    pub user_ack: bool,
+    /// How long a sampler may take from its request on.
+    pub patience: u64,
+    /// How long repeats of a result are still answered: the setting W.
+    pub linger: u64,
+}
+
+/// A live request.
+struct Asked {
+    tid: u16,
+    place: usize,
+    since: u64,
+}
+
+pub struct Round {
+    table: Table,
+    manner: Manner,
+    samplers: Vec<Sampler>,
+    outcomes: Vec<Option<Outcome>>,
+    /// The first sampler that wasn't asked for yet.
+    next: usize,
+    asked: Vec<Asked>,
+    lingers_until: u64,
+}
+
+impl Round {
+    pub fn new(table: Table, samplers: Vec<Sampler>, manner: Manner) -> Round {
+        let outcomes = vec![None; samplers.len()];
+        Round { table, manner, samplers, outcomes, next: 0, asked: Vec::new(), lingers_until: 0 }
+    }
+
+    /// To be called often: fires timers, gives up what took too long, and asks for more samplers.
+    pub fn tick(&mut self, now: u64) -> Step {
+        let mut step = Step::default();
+        for shown in step.fire(&mut self.table, now) {
+            self.shown(now, &shown, Cause::Timer, &mut step);
+        }
+        self.give_up(now, &mut step);
+        self.ask_more(now, &mut step);
+        step
+    }
+
+    pub fn datagram(&mut self, now: u64, datagram: &[u8]) -> Step {
+        let mut step = Step::default();
+        for pdu in step.separated(GATEWAY, datagram) {
+            let taken = self.table.receive(now, GATEWAY, pdu);
+            for shown in step.take(GATEWAY, taken) {
+                self.shown(now, &shown, Cause::Received, &mut step);
+            }
+        }
+        step
+    }
+
+    /// Aborts what is live, so that the gateway isn't left waiting; what has no outcome yet gets none any more.
+    pub fn interrupt(&mut self, now: u64) -> Step {
+        let mut step = Step::default();
+        for asked in std::mem::take(&mut self.asked) {
+            self.abort(now, asked.tid, reason::STOPPED, &mut step);
+        }
+        self.next = self.samplers.len();
+        for outcome in &mut self.outcomes {
+            outcome.get_or_insert(Outcome::NoAnswer(Why::Interrupted));
+        }
+        step
+    }
+
+    /// The outcome of each sampler, in the order of the samplers; none as long as it isn't there.
+    pub fn outcomes(&self) -> &[Option<Outcome>] {
+        &self.outcomes
+    }
+
+    pub fn finished(&self) -> usize {
+        self.outcomes.iter().flatten().count()
+    }
+
+    pub fn waiting(&self) -> usize {
+        self.asked.len()
+    }
+
+    pub fn is_finished(&self) -> bool {
+        self.finished() == self.samplers.len()
+    }
+
+    /// Finished, and no repeat of a result is expected any more.
+    pub fn is_over(&self, now: u64) -> bool {
+        self.is_finished() && now >= self.lingers_until
+    }
+
+    fn ask_more(&mut self, now: u64, step: &mut Step) {
+        while let Some(sampler) = self.samplers.get(self.next) {
+            let taken = self.table.request(now, GATEWAY, 2, self.manner.user_ack, &sampler.request());
+            match taken.as_ref().map(|taken| taken.tid) {
+                // A record ends sooner or later, so it is tried again.
+                Err(Refused::TableFull | Refused::TidInUse) => return,
+                Ok(Some(tid)) => self.asked.push(Asked { tid, place: self.next, since: now }),
+                Ok(None) => self.finish(self.next, Outcome::NoAnswer(Why::NotAsked(Refused::Unreadable))),
+                Err(why) => self.finish(self.next, Outcome::NoAnswer(Why::NotAsked(*why))),
+            }
+            step.take(GATEWAY, taken);
+            self.next += 1;
+        }
+    }
+
+    fn give_up(&mut self, now: u64, step: &mut Step) {
+        let patience = self.manner.patience;
+        let (late, asked) =
+            std::mem::take(&mut self.asked).into_iter().partition(|asked| now.saturating_sub(asked.since) >= patience);
+        self.asked = asked;
+        let late: Vec<Asked> = late;
+        for Asked { tid, place, since } in late {
+            self.abort(now, tid, reason::GAVE_UP, step);
+            self.finish(place, Outcome::NoAnswer(Why::GaveUp(now.saturating_sub(since))));
+        }
+    }
+
+    fn shown(&mut self, now: u64, shown: &Shown, cause: Cause, step: &mut Step) {
+        let Name { tid, .. } = shown.of();
+        let outcome = match Outcome::of(shown, cause) {
+            Some(outcome) => outcome,
+            None => return,
+        };
+        let place = match self.asked.iter().position(|asked| asked.tid == tid) {
+            Some(found) => self.asked.swap_remove(found).place,
+            None => return step.say(format!("TID {tid}: after its outcome was known: {} {outcome}", outcome.kind())),
+        };
+        match outcome {
+            Outcome::Value(_) | Outcome::EmptyResult => self.answer(now, tid, step),
+            Outcome::Abort(Aborted::Unreadable(_)) => self.abort(now, tid, reason::UNREADABLE, step),
+            Outcome::Abort(Aborted::Shown(_)) | Outcome::NoAnswer(_) => {}
+        }
+        self.finish(place, outcome);
+    }
+
+    fn finish(&mut self, place: usize, outcome: Outcome) {
+        if let Some(empty @ None) = self.outcomes.get_mut(place) {
+            *empty = Some(outcome);
+        }
+    }
+
+    fn answer(&mut self, now: u64, tid: u16, step: &mut Step) {
+        let taken = self.table.answer(now, name(tid), &[]);
+        step.take(GATEWAY, taken);
+        self.lingers_until = now.saturating_add(self.manner.linger);
+    }
+
+    fn abort(&mut self, now: u64, tid: u16, reason: u8, step: &mut Step) {
+        let taken = self.table.abort(now, name(tid), reason);
+        step.take(GATEWAY, taken);
+    }
+}
+
+fn name(tid: u16) -> Name {
+    Name { role: Role::Initiator, peer: GATEWAY, tid }
+}

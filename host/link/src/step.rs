@@ -1,0 +1,85 @@
+//! What a reader or a gateway does with one event: packets to send, and lines that say what happened.
+
+use wtp::{codec, Refused, Shown, Table, Taken};
+
+/// A datagram for a peer.
+#[derive(Debug, Clone, PartialEq, Eq)]
+pub struct Packet {
+    pub peer: u16,
+    pub octets: Vec<u8>,
+}
+
+#[derive(Debug, Default)]
+pub struct Step {
+    pub send: Vec<Packet>,
+    pub log: Vec<String>,
+}
+
+impl Step {
+    pub fn say(&mut self, line: String) {
+        self.log.push(line);
+    }
+
+    /// The PDUs of a datagram: none, and a line, where it can't be separated. A malformed one is named, and it is an event.
+    pub fn separated<'a>(&mut self, peer: u16, datagram: &'a [u8]) -> Vec<&'a [u8]> {
+        let pdus = codec::separate(datagram).unwrap_or_else(|why| {
+            let length = datagram.len();
+            self.say(format!("peer {peer}: a datagram of {length} octets was dropped: {why}"));
+            Vec::new()
+        });
+        for (pdu, why) in pdus.iter().filter_map(|pdu| Some((pdu, codec::read(pdu).err()?))) {
+            self.say(format!("peer {peer}: a PDU of {} octets is malformed: {why}", pdu.len()));
+        }
+        pdus
+    }
+
+    /// Takes over what a call for this peer leaves to do, and gives back what its user is shown.
+    pub fn take(&mut self, peer: u16, taken: Result<Taken, Refused>) -> Vec<Shown> {
+        match taken {
+            Ok(taken) => {
+                self.send.extend(taken.sent.map(|octets| Packet { peer, octets }));
+                taken.shown
+            }
+            Err(why) => {
+                self.say(format!("peer {peer}: the call was refused: {why}"));
+                Vec::new()
+            }
+        }
+    }
+
+    /// Fires all records that are due, and gives back what the user is shown.
+    pub fn fire(&mut self, table: &mut Table, now: u64) -> Vec<Shown> {
+        let mut shown = Vec::new();
+        loop {
+            let taken = table.timer(now);
+            let fired = taken.as_ref().ok().and_then(|taken| taken.fired);
+            shown.extend(self.take(fired.map_or(0, |of| of.peer), taken));
+            if fired.is_none() {
+                return shown;
+            }
+        }
+    }
+}
+
+#[cfg(test)]
+mod tests {
+    use super::*;
+
+    #[test]
+    fn what_cannot_be_separated_is_named_with_its_length_and_dropped() {
+        for octets in [&[][..], &[0; 1_501], &[0, 0], &[0, 9, 1]] {
+            let mut step = Step::default();
+            assert!(step.separated(3, octets).is_empty());
+            let start = format!("peer 3: a datagram of {} octets was dropped: ", octets.len());
+            assert!(step.log.len() == 1 && step.log[0].starts_with(&start), "{:?}", step.log);
+        }
+    }
+
+    #[test]
+    fn a_malformed_pdu_is_named_and_handed_on() {
+        let mut step = Step::default();
+        let pdus = step.separated(3, &[0, 3, 0x18, 0x80, 5, 4, 0x0E, 0, 5, 3]);
+        assert_eq!(pdus, [&[0x18, 0x80, 5][..], &[0x0E, 0, 5, 3]]);
+        assert_eq!(step.log, ["peer 3: a PDU of 4 octets is malformed: the class is 3 (number 105)"]);
+    }
+}

@@ -1,0 +1,138 @@
+//! A reader over UDP: it asks for a concentration for each sampler of a file.
+
+#![deny(unsafe_code)]
+
+mod progress;
+mod report;
+mod samplers;
+
+use link::args::{Given, Switches};
+use link::common::{self, Common};
+use link::outcome::{Outcome, Why};
+use link::post::{self, Heard, Post};
+use link::round::{Manner, Round};
+use link::step::Step;
+use link::{interrupt, say};
+use progress::Progress;
+use samplers::Scanned;
+
+const HELP: &str = "\
+Usage: reader [SWITCHES] SAMPLERS.csv
+
+Asks a gateway over UDP for a concentration for each sampler of a file (header sampler,site), each in a class 2
+transaction, several at a time, and prints a line for each, with one of four outcomes:
+  VALUE         a measured value
+  EMPTY RESULT  the laboratory answered, with no data
+  ABORT         the transaction was aborted, by the provider or by a user, and why
+  NO ANSWER     none came: this reader's timer or patience ended it, or Ctrl-C, or it couldn't be asked
+Then comes a summary. Ctrl-C ends the waiting: what has no outcome yet is shown as NO ANSWER.
+
+Switches, with their defaults:
+  --gateway ADDRESS    the gateway's address and port (127.0.0.1:9201)
+  --patience MS        how long a sampler may take, 1 to 86400000 (3 times (retries + 1) intervals)
+  --no-user-ack        ask for no user acknowledgement: a gateway then holds on for a user who says nothing";
+
+const HELP_END: &str = "  --help               this text
+
+Exit status: 0 each sampler has a value or an empty result, 1 not so, also after Ctrl-C, 2 wrong arguments or a wrong file.
+
+Example: reader --gateway 127.0.0.1:9201 --loss 20 --duplicate 20 --delay 60 host/examples/samplers.csv";
+
+const RECORDS: u64 = 8;
+const VALUED: [&str; 2] = ["--gateway", "--patience"];
+
+struct Reader {
+    post: Post,
+    round: Round,
+    samplers: Vec<Scanned>,
+    progress: Progress,
+}
+
+fn main() {
+    std::process::exit(match prepare() {
+        Ok(Some(reader)) => reader.run(),
+        Ok(None) => 0,
+        Err(what) => say::refuse("reader", &what),
+    });
+}
+
+/// None where only help was asked for.
+fn prepare() -> Result<Option<Reader>, String> {
+    let switches = Switches { valued: &[&common::VALUED[..], &VALUED].concat(), flags: &["--no-user-ack", "--help"] };
+    let given = Given::of(std::env::args_os().skip(1), &switches)?;
+    if given.has("--help") {
+        say::out(&format!("{HELP}\n{}\n{HELP_END}", common::HELP));
+        return Ok(None);
+    }
+    let common = Common::of(&given, RECORDS)?;
+    let linger = common.last_repeat();
+    let patience = given.number("--patience", linger.saturating_mul(3), 1..=86_400_000)?;
+    let address = post::address(given.text("--gateway").unwrap_or(common::DEFAULT_ADDRESS))?;
+    let samplers = samplers::read(given.one_name("SAMPLERS.csv")?)?;
+    let manner = Manner { user_ack: !given.has("--no-user-ack"), patience, linger };
+    let asked = samplers.iter().map(|scanned| scanned.sampler.clone()).collect();
+    let round = Round::new(common.table()?, asked, manner);
+    let post = Post::towards(address, common.line())?;
+    Ok(Some(Reader { post, round, samplers, progress: Progress::new() }))
+}
+
+impl Reader {
+    fn run(mut self) -> i32 {
+        interrupt::watch();
+        while !self.round.is_finished() && !interrupt::stopped() {
+            self.turn();
+        }
+        let step = self.round.interrupt(self.post.now());
+        self.carry_out(step);
+        let answered = self.print();
+        while !self.round.is_over(self.post.now()) && !interrupt::stopped() {
+            self.turn();
+        }
+        let log = self.post.empty_line();
+        self.log(&log);
+        self.progress.clear();
+        say::err(&format!("reader: {}", self.post.line()));
+        i32::from(!answered)
+    }
+
+    /// Looks at timers, then waits for a datagram for a short time.
+    fn turn(&mut self) {
+        let step = self.round.tick(self.post.now());
+        self.carry_out(step);
+        match self.post.hear() {
+            Heard::Datagram(packet) => {
+                let step = self.round.datagram(self.post.now(), &packet.octets);
+                self.carry_out(step);
+            }
+            Heard::Nothing => {}
+            Heard::Trouble(line) => self.log(&[line]),
+        }
+        let (round, all) = (&self.round, self.samplers.len());
+        self.progress.show(self.post.now(), || match round.waiting() {
+            0 if round.is_finished() => "reader: repeats of the last results are still answered".into(),
+            waiting => format!("reader: {} of {all} samplers finished, {waiting} wait for an answer", round.finished()),
+        });
+    }
+
+    fn carry_out(&mut self, step: Step) {
+        let log = self.post.carry_out(step);
+        self.log(&log);
+    }
+
+    fn log(&mut self, lines: &[String]) {
+        for line in lines {
+            self.progress.clear();
+            say::err(&format!("reader: {line}"));
+        }
+    }
+
+    /// Prints the outcomes, and says whether the laboratory answered each question.
+    fn print(&mut self) -> bool {
+        self.progress.clear();
+        let known = self.round.outcomes().iter();
+        let outcomes: Vec<_> = known.map(|outcome| outcome.clone().unwrap_or(Outcome::NoAnswer(Why::Interrupted))).collect();
+        say::out(&report::table(&self.samplers, &outcomes));
+        say::out(&format!("\n{}", report::summary(&outcomes)));
+        outcomes.iter().all(Outcome::is_answered)
+    }
+}

@@ -1,0 +1,144 @@
+#!/usr/bin/env bash
+# Runs gateway and reader with wrong arguments, wrong files, hostile datagrams, a silent port and signals; the last line counts.
+set -euo pipefail
+cd "$(dirname "$0")/../.."
+. host/tools.sh
+. scripts/cases.sh
+
+build --package gateway --package reader
+work="$(mktemp -d)"
+started=()
+
+stop() {
+    kill "$@" 2>/dev/null || true
+    wait "$@" 2>/dev/null || true
+}
+trap '[ ${#started[@]} = 0 ] || stop "${started[@]}"; rm -rf "$work"' EXIT
+
+# says STATUS TEXT PROGRAM ARGUMENTS...: the program ends with this status, prints this text, and doesn't panic.
+says() {
+    local expected="$1" text="$2" program="$3" status=0
+    shift 3
+    timeout 30 $runner "$programs/$program" "$@" >"$work/said" 2>&1 || status=$?
+    if [ "$status" = "$expected" ] && grep -qF -- "$text" "$work/said" && ! grep -q panicked "$work/said"; then
+        return 0
+    fi
+    echo "$program $*: status $status instead of $expected, or it doesn't say: $text"
+    cat "$work/said"
+    return 1
+}
+
+# gateway NAME ARGUMENTS...: starts one on a free port; sets `process` and `address`.
+gateway() {
+    local log="$work/$1.log"
+    shift
+    $runner "$programs/gateway" --listen 127.0.0.1:0 "$@" host/examples/results.csv >"$log" 2>&1 &
+    process=$!
+    started+=("$process")
+    for _ in $(seq 100); do
+        [ -s "$log" ] && break
+        sleep 0.1
+    done
+    address="$(sed -n '1s/^gateway: listening on \([^ ]*\) .*/\1/p' "$log")"
+}
+
+# waits_for PATTERN FILE: until the file has it.
+waits_for() {
+    for _ in $(seq 100); do
+        grep -qE -- "$1" "$2" 2>/dev/null && return 0
+        sleep 0.1
+    done
+    echo "$2 doesn't say: $1"
+    return 1
+}
+
+# file NAME LINES: a file of these lines.
+file() {
+    printf "$2" >"$work/$1"
+    echo "$work/$1"
+}
+
+one="$(file one.csv 'sampler,site\n0041,Quay\n')"
+
+echo "help and arguments"
+for program in gateway reader; do
+    check "$program --help" says 0 "Exit status:" "$program" --help
+    check "$program without a file" says 2 "is missing" "$program"
+    check "$program with a wrong switch" says 2 "there is no switch --bad" "$program" --bad
+    check "$program with half a switch" says 2 "--seed needs a value" "$program" --seed
+    check "$program with a wrong number" says 2 "--loss must be a number from 0 to 100" "$program" --loss 101 "$one"
+    check "$program with two files" says 2 "one argument too many" "$program" a b
+    check "$program with a missing file" says 2 "no-such.csv: can't be read" "$program" no-such.csv
+    check "$program with a directory" says 2 "can't be read" "$program" "$work"
+    check "$program with an empty file" says 2 "line 1: the header must be" "$program" "$(file empty.csv '')"
+    check "$program with other octets" says 2 "line 1: that isn't plain UTF-8 text" "$program" "$(file octets.csv '\377\376')"
+done
+check "a wrong address" says 2 "isn't an address" reader --gateway nowhere "$one"
+check "an address that can't be listened on" says 2 "192.0.2.1:9 can't be used" gateway --listen 192.0.2.1:9 host/examples/results.csv
+
+echo "files"
+header='sampler,site\n'
+check "a line with a cell too few" says 2 "line 3: 2 cells are expected" reader "$(file s1.csv "${header}1,a\n2\n")"
+check "a sampler twice" says 2 "line 3: the sampler 1 is there already" reader "$(file s2.csv "${header}1,a\n1,b\n")"
+check "a number that is too long" says 2 "line 2: the sampler number is too long" reader "$(file s3.csv "${header}1234567890123,a\n")"
+check "no sampler" says 2 "there is no sampler in it" reader "$(file s4.csv "$header")"
+header='sampler,answer,detail\n'
+check "a value that is none" says 2 "line 2: \"0\" isn't a value" gateway "$(file r1.csv "${header}1,value,0\n")"
+check "a reason that is none" says 2 "line 2: the reason \"256\"" gateway "$(file r2.csv "${header}1,abort,256\n")"
+check "an answer that is none" says 2 "line 2: the answer \"zero\"" gateway "$(file r3.csv "${header}1,zero,\n")"
+
+echo "a gateway and its readers"
+gateway first
+check "a value, and status 0" says 0 "VALUE         NO2 41.2 ug/m3" reader --gateway "$address" --interval 100 "$one"
+check "an abort, and status 1" says 1 "ABORT         by the user: the laboratory doesn't know" reader --gateway "$address" \
+    --interval 100 "$(file other.csv 'sampler,site\n9999,Quay\n')"
+check "the port is in use" says 2 "$address can't be used" gateway --listen "$address" host/examples/results.csv
+check "an output that nobody reads" bash -c "$runner '$programs/reader' --gateway '$address' --interval 100 '$one' 2>'$work/pipe' | true
+    ! grep panicked '$work/pipe'"
+
+echo "hostile datagrams"
+for octets in '' '\000' '\000\000' '\016\000\005' '\377' "$(head -c 1501 /dev/zero | tr '\0' 'x')" "$(head -c 9000 /dev/zero | tr '\0' 'x')"; do
+    printf "$octets" >"$work/datagram"
+    python3 -c 'import socket, sys
+host, port = sys.argv[1].rsplit(":", 1)
+socket.socket(socket.AF_INET, socket.SOCK_DGRAM).sendto(open(sys.argv[2], "rb").read(), (host, int(port)))' "$address" "$work/datagram"
+done
+for length in 0 1 2 1501 9000; do
+    check "a datagram of $length octets" waits_for "a datagram of $length octets was dropped" "$work/first.log"
+done
+check "a malformed PDU" waits_for "a PDU of 3 octets is malformed" "$work/first.log"
+check "the gateway still answers" says 0 "VALUE" reader --gateway "$address" --interval 100 "$one"
+stop "$process"
+check "the gateway's summary" waits_for "results confirmed" "$work/first.log"
+check "no panic" bash -c "! grep panicked '$work/first.log'"
+check "nobody is there" says 1 "NO ANSWER     none came" reader --gateway "$address" --interval 20 "$one"
+
+echo "signals"
+# interrupted SIGNAL: a reader that waits for an answer is stopped.
+interrupted() {
+    local status=0
+    $runner "$programs/reader" --gateway "$address" --interval 5000 host/examples/samplers.csv >"$work/reader" 2>"$work/$1" &
+    local reader=$!
+    started+=("$reader")
+    waits_for "[1-9] of 10 samplers finished" "$work/$1"
+    kill -s "$1" "$reader"
+    wait "$reader" || status=$?
+    [ "$status" = 1 ] && grep -q "VALUE         NO2 41.2" "$work/reader" && grep -q "NO ANSWER     interrupted" "$work/reader" &&
+        grep -q "10 of 10 samplers have an outcome" "$work/reader"
+}
+gateway second --quiet --interval 5000
+check "Ctrl-C at the reader" interrupted INT
+check "SIGTERM at the reader" interrupted TERM
+# ended SIGNAL: the gateway prints its summary and ends with 0.
+ended() {
+    local status=0
+    kill -s "$1" "$process"
+    wait "$process" || status=$?
+    [ "$status" = 0 ] && grep -q "results confirmed" "$work/$2.log"
+}
+check "Ctrl-C at the gateway" ended INT second
+check "--quiet" [ "$(wc -l <"$work/second.log")" = 4 ]
+gateway third
+check "SIGTERM at the gateway" ended TERM third
+
+finish
