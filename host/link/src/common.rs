@@ -1,8 +1,8 @@
 //! The switches that reader and gateway share.
 
 use crate::args::Given;
-use crate::dice::Dice;
 use crate::line::{Faults, Line};
+use random::Random;
 use wtp::{Settings, Table};
 
 pub const DEFAULT_ADDRESS: &str = "127.0.0.1:9201";
@@ -17,7 +17,7 @@ pub const HELP: &str = "  --records N          records of the table, 1 to 48: so
   --seed N             seed of loss, duplication, delay and first TID (1)";
 
 const AEC_MAX: u64 = 2;
-const LARGEST_TID: u64 = 32_767;
+const TIDS: u64 = 32_768;
 
 pub struct Common {
     records: u64,
@@ -58,7 +58,7 @@ impl Common {
             r_class_1: rows,
             r_class_2: rows,
         };
-        let first_tid = u16::try_from(Dice::new(self.seed).up_to(LARGEST_TID)).unwrap_or_default();
+        let first_tid = u16::try_from(Random::new(self.seed).below(TIDS)).unwrap_or_default();
         Table::fresh(self.records, &settings, first_tid).map_err(|why| format!("the settings were refused: {why}"))
     }
 

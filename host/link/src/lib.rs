@@ -11,7 +11,6 @@ pub mod book;
 pub mod common;
 pub mod csv;
 pub mod desk;
-pub mod dice;
 mod head;
 #[allow(unsafe_code)]
 pub mod interrupt;

@@ -1,7 +1,7 @@
 //! What is sent goes through a line that may lose, double and delay it, so that one packet overtakes another.
 
-use crate::dice::Dice;
 use crate::step::Packet;
+use random::Random;
 use std::collections::BTreeMap;
 use std::fmt;
 
@@ -15,7 +15,7 @@ pub struct Faults {
 
 pub struct Line {
     faults: Faults,
-    dice: Dice,
+    random: Random,
     /// By the time at which a packet leaves, then in the order in which it was sent.
     waiting: BTreeMap<(u64, u64), Packet>,
     sent: u64,
@@ -26,16 +26,16 @@ pub struct Line {
 
 impl Line {
     pub fn new(faults: Faults, seed: u64) -> Line {
-        Line { faults, dice: Dice::new(seed), waiting: BTreeMap::new(), sent: 0, lost: 0, doubled: 0, order: 0 }
+        Line { faults, random: Random::new(seed), waiting: BTreeMap::new(), sent: 0, lost: 0, doubled: 0, order: 0 }
     }
 
     pub fn send(&mut self, now: u64, packet: Packet) {
         self.sent += 1;
-        if self.dice.percent(self.faults.loss) {
+        if self.random.percent(self.faults.loss) {
             self.lost += 1;
             return;
         }
-        if self.dice.percent(self.faults.duplicate) {
+        if self.random.percent(self.faults.duplicate) {
             self.doubled += 1;
             self.wait(now, packet.clone());
         }
@@ -43,7 +43,7 @@ impl Line {
     }
 
     fn wait(&mut self, now: u64, packet: Packet) {
-        let leaves = now.saturating_add(self.dice.up_to(self.faults.delay));
+        let leaves = now.saturating_add(self.random.below(self.faults.delay.saturating_add(1)));
         self.order += 1;
         self.waiting.insert((leaves, self.order), packet);
     }

@@ -3,34 +3,29 @@
 mod common;
 
 use common::{initiator, responder, table, PEER, SETTINGS};
+use random::Random;
 use wtp::{codec, Name, Refused, Shown, Table, Taken};
 
 const PDUS: usize = 10_000;
 
-/// Xorshift, so that every run tries the same.
-struct Dice(u64);
+/// What is drawn for a call.
+struct Dice(Random);
 
 impl Dice {
-    fn next(&mut self) -> u64 {
-        self.0 ^= self.0 << 13;
-        self.0 ^= self.0 >> 7;
-        self.0 ^= self.0 << 17;
-        self.0
-    }
-
     /// 0 to `bound` - 1.
     fn below(&mut self, bound: u16) -> u16 {
-        u16::try_from(self.next() % u64::from(bound)).unwrap()
+        u16::try_from(self.0.below(bound.into())).unwrap()
     }
 
     fn octet(&mut self) -> u8 {
-        u8::try_from(self.below(256)).unwrap()
+        self.0.octet()
     }
 
     /// Mostly short, sometimes longer than a PDU may be.
     fn octets(&mut self) -> Vec<u8> {
-        let longest = if self.below(20) == 0 { 1_600 } else { 12 };
-        (0..self.below(longest)).map(|_| self.octet()).collect()
+        let longest = if self.0.percent(5) { 1_600 } else { 12 };
+        let count = self.0.place(longest);
+        self.0.octets(count)
     }
 
     fn peer(&mut self) -> u16 {
@@ -76,7 +71,7 @@ fn user_call(table: &mut Table, now: u64, latest: u16, dice: &mut Dice) -> Resul
 
 #[test]
 fn random_octets_are_taken_or_refused() {
-    let (mut dice, mut table) = (Dice(0x5EED), table(4));
+    let (mut dice, mut table) = (Dice(Random::new(0x5EED)), table(4));
     for now in (0..).take(PDUS) {
         let octets = dice.octets();
         let answer = table.receive(now, dice.peer(), &octets);
@@ -98,7 +93,7 @@ fn case(shown: &Shown) -> usize {
 
 #[test]
 fn pdus_between_random_calls_are_taken_or_refused() {
-    let mut dice = Dice(0xD1CE);
+    let mut dice = Dice(Random::new(0xD1CE));
     let mut table = Table::fresh(4, &SETTINGS, 0).unwrap();
     let (mut latest, mut cases) = (0, [0; 5]);
     for step in (0..).take(PDUS) {
@@ -117,7 +112,7 @@ fn pdus_between_random_calls_are_taken_or_refused() {
 
 #[test]
 fn random_octets_are_read_and_separated_or_refused() {
-    let mut dice = Dice(0xC0DEC);
+    let mut dice = Dice(Random::new(0xC0DEC));
     for _ in 0..PDUS {
         let pdu = dice.pdu(0);
         understood(&codec::separate(&pdu));
@@ -132,11 +127,11 @@ fn random_octets_are_read_and_separated_or_refused() {
 
 #[test]
 fn random_words_are_written_or_refused() {
-    let mut dice = Dice(0xF1E1D5);
+    let mut dice = Dice(Random::new(0xF1E1D5));
     for _ in 0..PDUS {
         let mut fields = [0; 88];
         for _ in 0..dice.below(6) {
-            fields[usize::from(dice.below(88))] = if dice.below(4) == 0 { dice.next() } else { u64::from(dice.below(9)) };
+            fields[usize::from(dice.below(88))] = if dice.below(4) == 0 { dice.0.word() } else { u64::from(dice.below(9)) };
         }
         fields[codec::word::TYPE] = u64::from(dice.below(9));
         understood(&codec::write(&fields, &dice.octets()));
@@ -145,7 +140,7 @@ fn random_words_are_written_or_refused() {
 
 #[test]
 fn a_table_of_random_octets_is_refused() {
-    let mut dice = Dice(0x7AB1E);
+    let mut dice = Dice(Random::new(0x7AB1E));
     let bytes = table(1).octets().0.len();
     for _ in 0..1_000 {
         let octets = (0..bytes).map(|_| dice.octet()).collect();

@@ -1,56 +1,39 @@
 //! The walk and the library say the same of every PDU and every datagram.
 
+use random::Random;
 use wtp::codec::{read, separate};
 use wtp::Refused;
 use wtpdump::{fault, unseparated, Fault};
 
-/// Numbers that look random and are the same in every run.
-struct Numbers(u64);
-
-impl Numbers {
-    fn next(&mut self) -> u64 {
-        self.0 = self.0.wrapping_mul(6_364_136_223_846_793_005).wrapping_add(1_442_695_040_888_963_407);
-        self.0 >> 33
-    }
-
-    fn below(&mut self, bound: u64) -> u64 {
-        self.next() % bound
-    }
-
-    fn octets(&mut self, count: u64) -> Vec<u8> {
-        (0..count).map(|_| self.next() as u8).collect()
-    }
-}
-
 /// A PDU that is often well formed: a header, up to 18 items, some octets; then perhaps cut.
-fn made(numbers: &mut Numbers) -> Vec<u8> {
-    let items = if numbers.below(2) == 0 { 0 } else { numbers.below(18) };
-    let kind = numbers.below(9) as u8;
-    let first = kind << 3 | numbers.below(8) as u8 | if items > 0 { 0x80 } else { 0 };
-    let mut pdu = vec![first, numbers.next() as u8, numbers.next() as u8];
+fn made(random: &mut Random) -> Vec<u8> {
+    let items = if random.below(2) == 0 { 0 } else { random.below(18) };
+    let kind = random.below(9) as u8;
+    let first = kind << 3 | random.below(8) as u8 | if items > 0 { 0x80 } else { 0 };
+    let mut pdu = vec![first, random.octet(), random.octet()];
     if !matches!(kind, 2 | 3) {
-        pdu.push(numbers.below(8) as u8);
+        pdu.push(random.below(8) as u8);
     }
     if kind == 7 {
-        let count = u64::from(pdu[3]);
-        pdu.extend(numbers.octets(count));
+        let count = usize::from(pdu[3]);
+        pdu.extend(random.octets(count));
     }
     for left in (0..items).rev() {
-        pdu.extend(item(numbers, left > 0));
+        pdu.extend(item(random, left > 0));
     }
-    let rest = numbers.below(3);
-    pdu.extend(numbers.octets(rest));
-    let kept = if numbers.below(3) == 0 { numbers.below(pdu.len() as u64 + 1) as usize } else { pdu.len() };
+    let rest = random.place(3);
+    pdu.extend(random.octets(rest));
+    let kept = if random.below(3) == 0 { random.place(pdu.len() + 1) } else { pdu.len() };
     pdu.truncate(kept);
     pdu
 }
 
-fn item(numbers: &mut Numbers, more: bool) -> Vec<u8> {
+fn item(random: &mut Random, more: bool) -> Vec<u8> {
     let con = if more { 0x80 } else { 0 };
-    let identity = (numbers.below(16) as u8) << 3;
-    let length = numbers.below(4);
-    let head = if numbers.below(2) == 0 { vec![con | identity | length as u8] } else { vec![con | identity | 4, length as u8] };
-    [head, numbers.octets(length)].concat()
+    let identity = (random.below(16) as u8) << 3;
+    let length = random.place(4);
+    let head = if random.below(2) == 0 { vec![con | identity | length as u8] } else { vec![con | identity | 4, length as u8] };
+    [head, random.octets(length)].concat()
 }
 
 fn agrees(pdu: &[u8]) -> Result<(), Refused> {
@@ -64,10 +47,10 @@ fn agrees(pdu: &[u8]) -> Result<(), Refused> {
 
 #[test]
 fn the_walk_finds_the_librarys_d_in_every_made_pdu() {
-    let mut numbers = Numbers(1);
+    let mut random = Random::new(1);
     let mut seen = std::collections::BTreeMap::new();
     for _ in 0..12_000 {
-        let said = agrees(&made(&mut numbers)).map_or_else(Refused::number, |()| 0);
+        let said = agrees(&made(&mut random)).map_or_else(Refused::number, |()| 0);
         *seen.entry(said).or_insert(0) += 1;
     }
     let numbers: Vec<u64> = seen.keys().copied().collect();
@@ -76,10 +59,10 @@ fn the_walk_finds_the_librarys_d_in_every_made_pdu() {
 
 #[test]
 fn the_walk_finds_the_librarys_d_in_noise_of_every_length() {
-    let mut numbers = Numbers(2);
+    let mut random = Random::new(2);
     for length in (0..200).chain([1_499, 1_500, 1_501]) {
         for _ in 0..40 {
-            agrees(&numbers.octets(length)).ok();
+            agrees(&random.octets(length)).ok();
         }
     }
 }
@@ -108,17 +91,17 @@ fn the_place_is_where_the_rule_fails() {
 
 #[test]
 fn a_place_is_given_for_just_those_datagrams_that_the_library_cannot_separate() {
-    let mut numbers = Numbers(3);
+    let mut random = Random::new(3);
     let mut seen = [0; 2];
     for _ in 0..6_000 {
         let mut datagram = vec![0];
-        for _ in 0..numbers.below(4) {
-            let length = numbers.below(5);
-            let head = if numbers.below(2) == 0 { vec![length as u8] } else { vec![0x80, length as u8] };
+        for _ in 0..random.below(4) {
+            let length = random.place(5);
+            let head = if random.below(2) == 0 { vec![length as u8] } else { vec![0x80, length as u8] };
             datagram.extend(head);
-            datagram.extend(numbers.octets(length));
+            datagram.extend(random.octets(length));
         }
-        let kept = datagram.len() - usize::from(numbers.below(4) == 0 && datagram.len() > 1);
+        let kept = datagram.len() - usize::from(random.below(4) == 0 && datagram.len() > 1);
         let datagram = &datagram[..kept];
         let refused = separate(datagram).is_err();
         assert_eq!(unseparated(datagram).is_some(), refused, "{datagram:02X?}");

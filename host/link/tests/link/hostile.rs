@@ -3,15 +3,16 @@
 use crate::world::{table, value, World, INTERVAL, MANNER, NO_FAULTS, PATIENCE};
 use link::book::{Book, Entry};
 use link::desk::Desk;
-use link::dice::Dice;
 use link::outcome::{Kind, Outcome, Why};
 use link::payload::Sampler;
 use link::round::Round;
 use link::step::Packet;
+use random::Random;
 
-fn random_octets(dice: &mut Dice) -> Vec<u8> {
-    let longest = if dice.up_to(20) == 0 { 1_600 } else { 12 };
-    (0..dice.up_to(longest)).map(|_| u8::try_from(dice.up_to(255)).unwrap()).collect()
+fn random_octets(random: &mut Random) -> Vec<u8> {
+    let longest = if random.percent(5) { 1_600 } else { 12 };
+    let count = random.place(longest);
+    random.octets(count)
 }
 
 /// A round of one sampler, whose request has the TID 32,760.
@@ -29,11 +30,11 @@ fn outcome(round: &Round) -> Option<(Kind, String)> {
 fn random_datagrams_leave_the_values_as_they_are() {
     let entries: Vec<_> = (0..100).map(value).collect();
     let mut world = World::new(&entries, 16, MANNER, NO_FAULTS, NO_FAULTS);
-    let mut dice = Dice::new(5);
+    let mut random = Random::new(5);
     while !world.round.is_finished() {
         world.tick();
         for peer in [1, 2, 255] {
-            world.desk.datagram(world.now, peer, &random_octets(&mut dice));
+            world.desk.datagram(world.now, peer, &random_octets(&mut random));
         }
         assert!(world.now < 100 * PATIENCE, "the round doesn't end");
     }
@@ -44,11 +45,11 @@ fn random_datagrams_leave_the_values_as_they_are() {
 
 #[test]
 fn random_datagrams_never_make_a_value_or_an_empty_result_of_nothing() {
-    let mut dice = Dice::new(6);
+    let mut random = Random::new(6);
     for _ in 0..2_000 {
         let mut round = asked();
-        let mut octets = random_octets(&mut dice);
-        let first = u8::try_from(dice.up_to(255)).unwrap();
+        let mut octets = random_octets(&mut random);
+        let first = random.octet();
         // A Result of this TID would be a true one, so that its type isn't taken.
         octets.splice(0..0, [if first >> 3 & 15 == 2 { first ^ 8 } else { first }, 0xFF, 0xF8]);
         round.datagram(1, &octets);

@@ -1,0 +1,73 @@
+//! Settings and first GenTIDs for the fresh-table call: good ones that let timers come due, and wrong ones.
+
+use crate::layout::LONGEST;
+use random::Random;
+use wtp::ffi::SETTINGS;
+
+const INTERVALS: std::ops::Range<usize> = 2..22;
+
+/// Good settings: short intervals mostly, the two rows of R with nine values each that differ.
+pub fn settings(random: &mut Random, words: &mut Vec<u64>) {
+    words.clear();
+    words.resize(SETTINGS, 0);
+    words[0] = limit(random);
+    words[1] = limit(random);
+    let bound = random.of(&[3, 20, 50, 1000]);
+    for interval in &mut words[INTERVALS] {
+        *interval = if random.percent(3) { LONGEST - random.below(2) } else { 1 + random.below(bound) };
+    }
+}
+
+/// RCR_MAX or AEC_MAX: small mostly, so that the limit is reached.
+fn limit(random: &mut Random) -> u64 {
+    if random.percent(70) {
+        random.below(3)
+    } else {
+        random.below(9)
+    }
+}
+
+/// A first GenTID: low, in the middle, or just before it wraps.
+pub fn first_tid(random: &mut Random) -> u64 {
+    match random.below(4) {
+        0 => 32_767 - random.below(8),
+        1 => random.below(32_768),
+        _ => random.below(8),
+    }
+}
+
+/// Puts one word out of range or just in range, or changes the number of words.
+pub fn spoil(random: &mut Random, words: &mut Vec<u64>, first_tid: &mut u64) {
+    let place = random.place(SETTINGS);
+    match random.below(5) {
+        0 => words.truncate(place),
+        1 => words.push(0),
+        2 => *first_tid = random.of(&[32_767, 32_768, 65_536, u64::MAX]),
+        _ => words[place] = random.of(&[0, 1, 8, 9, LONGEST, LONGEST + 1, 1 << 32, u64::MAX]),
+    }
+}
+
+#[cfg(test)]
+mod tests {
+    use super::*;
+    use crate::layout;
+
+    fn fresh(settings: &[u64], first_tid: u64) -> u64 {
+        wtp::ffi::fresh(&mut vec![0xFF; layout::table_bytes(1)], settings, first_tid)
+    }
+
+    #[test]
+    fn good_settings_are_taken_and_spoilt_ones_are_refused_now_and_then() {
+        let mut random = Random::new(1);
+        let mut words = Vec::new();
+        let mut refused = 0;
+        for _ in 0..200 {
+            settings(&mut random, &mut words);
+            let mut tid = first_tid(&mut random);
+            assert_eq!(fresh(&words, tid), 0);
+            spoil(&mut random, &mut words, &mut tid);
+            refused += u32::from(fresh(&words, tid) == 10);
+        }
+        assert!(refused > 100);
+    }
+}

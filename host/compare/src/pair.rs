@@ -1,0 +1,100 @@
+//! Plays each call on both sides, which started with equal buffers, and stops at the first difference.
+
+use crate::buffers::Buffers;
+use crate::calls::Call;
+use crate::differences::{self, Difference};
+use crate::sides::{Said, Side};
+use crate::tally::{with_commas, Tally};
+use random::Random;
+use std::io::{stderr, Write};
+use std::panic::{catch_unwind, AssertUnwindSafe};
+
+/// The fewest calls after which progress is told.
+const PROGRESS: u64 = 1000;
+
+/// Why no further call is made.
+pub enum End {
+    /// All calls that were asked for are made.
+    Enough,
+    Different(Box<Found>),
+}
+
+/// A difference with all that is needed to look into it.
+pub struct Found {
+    pub number: u64,
+    pub call: String,
+    pub said: [Said; 2],
+    pub difference: Difference,
+    /// The table that the call was lent.
+    pub table: Vec<u8>,
+}
+
+pub struct Pair {
+    sides: [Side; 2],
+    pub buffers: [Buffers; 2],
+    pub tally: Tally,
+    calls: u64,
+    before: Vec<u8>,
+}
+
+impl Pair {
+    /// The library first and the twin second, for so many calls.
+    pub fn new(sides: [Side; 2], calls: u64) -> Pair {
+        Pair { sides, buffers: Default::default(), tally: Tally::default(), calls, before: Vec::new() }
+    }
+
+    /// Fills the buffers of a new session with the same random octets on both sides.
+    pub fn begin(&mut self, records: usize, random: &mut Random) {
+        let [library, _] = &mut self.buffers;
+        library.resize(records);
+        random.fill(&mut library.table);
+        random.fill(&mut library.store);
+        self.make_equal();
+    }
+
+    /// Copies the library's buffers to the twin.
+    pub fn make_equal(&mut self) {
+        let [library, twin] = &mut self.buffers;
+        twin.copy_from(library);
+    }
+
+    /// Fills output and words on both sides anew, so that what a call leaves alone is seen.
+    pub fn refill(&mut self, random: &mut Random) {
+        let (octet, word) = (random.octet(), random.word());
+        for buffers in &mut self.buffers {
+            buffers.out.fill(octet);
+            buffers.words.fill(word);
+        }
+    }
+
+    /// The number that both sides gave.
+    pub fn play(&mut self, call: &Call) -> Result<u64, End> {
+        if self.tally.calls >= self.calls {
+            return Err(End::Enough);
+        }
+        self.before.clone_from(&self.buffers[0].table);
+        let said = [0, 1].map(|side| asked(self.sides[side], call, &mut self.buffers[side]));
+        if let Some(difference) = differences::first(said, &self.buffers) {
+            let number = self.tally.calls + 1;
+            let table = self.before.clone();
+            return Err(End::Different(Box::new(Found { number, call: call.to_string(), said, difference, table })));
+        }
+        self.tally.count(call.kind, said[1]);
+        self.show_progress();
+        Ok(said[0].number)
+    }
+
+    fn show_progress(&self) {
+        let made = self.tally.calls;
+        if made % (self.calls / 10).max(PROGRESS) == 0 {
+            // A closed standard error is no reason to stop.
+            let _ = writeln!(stderr(), "{} of {} calls the same", with_commas(made), with_commas(self.calls));
+        }
+    }
+}
+
+/// What a side says; a panic is a number of its own, so that the call is told like any other difference.
+fn asked(side: Side, call: &Call, buffers: &mut Buffers) -> Said {
+    let said = catch_unwind(AssertUnwindSafe(|| side(call, buffers)));
+    said.unwrap_or(Said { number: differences::PANIC, row: None })
+}

@@ -1,0 +1,86 @@
+//! Plants differences in a side and looks whether they are found.
+
+use crate::buffers::Buffers;
+use crate::calls::{Call, Kind};
+use crate::differences::Place;
+use crate::pair::{End, Found, Pair};
+use crate::session::play_all;
+use crate::sides::{library, Said, Side};
+use random::Random;
+
+fn played(seed: u64, calls: u64, twin: Side) -> (Pair, End) {
+    let mut pair = Pair::new([library, twin], calls);
+    let end = play_all(&mut Random::new(seed), &mut pair);
+    (pair, end)
+}
+
+fn found(twin: Side) -> Found {
+    match played(1, 20_000, twin).1 {
+        End::Different(found) => *found,
+        End::Enough => panic!("no difference was found"),
+    }
+}
+
+/// The library, but with a store that a timer call has changed.
+fn changed_by_a_firing(call: &Call, buffers: &mut Buffers) -> Said {
+    let said = library(call, buffers);
+    if matches!(call.kind, Kind::Timer { .. }) && said.number == 0 && buffers.words[3] == 1 {
+        buffers.store[1023] ^= 1;
+    }
+    said
+}
+
+fn refused_with_another_number(call: &Call, buffers: &mut Buffers) -> Said {
+    let said = library(call, buffers);
+    Said { number: if said.number == 7 { 6 } else { said.number }, ..said }
+}
+
+fn panics_at_a_long_pdu(call: &Call, buffers: &mut Buffers) -> Said {
+    assert!(call.octets.len() <= 1500, "too long");
+    library(call, buffers)
+}
+
+#[test]
+fn the_library_is_the_same_as_itself_for_all_calls_asked_for() {
+    let (pair, end) = played(1, 500, library);
+    assert!(matches!(end, End::Enough));
+    assert_eq!(pair.tally.calls, 500);
+}
+
+#[test]
+fn a_changed_octet_is_found_at_the_call_that_changed_it() {
+    let found = found(changed_by_a_firing);
+    assert!(found.call.starts_with("timer: "));
+    assert_eq!(found.difference.place, Place::Store(1023));
+}
+
+#[test]
+fn another_number_is_found() {
+    let found = found(refused_with_another_number);
+    assert!(found.call.starts_with("request: "));
+    assert_eq!((found.difference.library, found.difference.twin), (7, 6));
+}
+
+#[test]
+fn a_panic_is_told_as_a_difference() {
+    let found = found(panics_at_a_long_pdu);
+    assert!(found.difference.to_string().ends_with("twin a panic"));
+}
+
+#[test]
+fn a_difference_comes_again_at_the_same_call_and_not_before() {
+    let number = found(changed_by_a_firing).number;
+    assert!(matches!(played(1, number, changed_by_a_firing).1, End::Different(_)));
+    assert!(matches!(played(1, number - 1, changed_by_a_firing).1, End::Enough));
+}
+
+#[test]
+fn a_seed_gives_the_same_calls_again_and_another_seed_gives_others() {
+    let run = |seed| {
+        let (pair, _) = played(seed, 300, library);
+        let [library, _] = pair.buffers;
+        (library.table, library.store, pair.tally.to_string())
+    };
+    assert_eq!(run(1), run(1));
+    assert_ne!(run(1), run(2));
+}

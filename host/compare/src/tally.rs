@@ -1,0 +1,116 @@
+//! Counts the rows and outcomes that were reached, and knows which were never reached.
+
+use crate::calls::Kind;
+use crate::sides::Said;
+use std::collections::BTreeMap;
+use std::fmt;
+use twin::Row;
+
+/// The outcomes that each call without rows can have.
+const OUTCOMES: [(&str, &[u64]); 5] = [
+    ("fresh", &[0, 1, 10]),
+    ("read", &[0, 1, 11, 101, 102, 103, 104, 105, 106, 107]),
+    ("write", &[0, 1, 11, 101, 102, 103, 104, 105, 106, 107]),
+    ("separate", &[0, 1, 11]),
+    ("join", &[0, 1, 11]),
+];
+
+#[derive(Default)]
+pub struct Tally {
+    pub calls: u64,
+    rows: BTreeMap<Row, u64>,
+    outcomes: BTreeMap<(&'static str, u64), u64>,
+}
+
+impl Tally {
+    pub fn count(&mut self, kind: Kind, said: Said) {
+        self.calls += 1;
+        if let Some(row) = said.row {
+            *self.rows.entry(row).or_insert(0) += 1;
+        }
+        if let Some(call) = kind.without_rows() {
+            *self.outcomes.entry((call, said.number)).or_insert(0) += 1;
+        }
+    }
+
+    fn row(&self, row: Row) -> u64 {
+        self.rows.get(&row).copied().unwrap_or(0)
+    }
+
+    /// Each outcome in words with its count.
+    fn outcomes(&self) -> impl Iterator<Item = (String, u64)> + '_ {
+        let all = OUTCOMES.iter().flat_map(|(call, numbers)| numbers.iter().map(move |number| (*call, *number)));
+        all.map(|(call, number)| {
+            (format!("{call} {}", outcome(number)), self.outcomes.get(&(call, number)).copied().unwrap_or(0))
+        })
+    }
+
+    pub fn rows_reached(&self) -> usize {
+        Row::ALL.iter().filter(|row| self.row(**row) > 0).count()
+    }
+
+    /// The names of all rows and outcomes that no call reached.
+    pub fn never_reached(&self) -> Vec<String> {
+        let rows = Row::ALL.iter().filter(|row| self.row(**row) == 0).map(|row| row.name().to_string());
+        let outcomes = self.outcomes().filter(|(_, count)| *count == 0).map(|(name, _)| name);
+        rows.chain(outcomes).collect()
+    }
+}
+
+/// A number of the codec in words.
+fn outcome(number: u64) -> String {
+    match number {
+        0 => "accepted".to_string(),
+        101..=107 => format!("D{}", number - 100),
+        _ => format!("refused {number}"),
+    }
+}
+
+/// A number with a comma after each three digits.
+pub fn with_commas(number: u64) -> String {
+    let digits = number.to_string();
+    let mut told = String::new();
+    for (at, digit) in digits.chars().enumerate() {
+        if at > 0 && (digits.len() - at) % 3 == 0 {
+            told.push(',');
+        }
+        told.push(digit);
+    }
+    told
+}
+
+impl fmt::Display for Tally {
+    fn fmt(&self, f: &mut fmt::Formatter) -> fmt::Result {
+        Row::ALL.iter().try_for_each(|row| writeln!(f, "{:>11}  {}", with_commas(self.row(*row)), row.name()))?;
+        self.outcomes().try_for_each(|(name, count)| writeln!(f, "{:>11}  {name}", with_commas(count)))
+    }
+}
+
+#[cfg(test)]
+mod tests {
+    use super::*;
+
+    #[test]
+    fn what_was_never_counted_is_named() {
+        let mut tally = Tally::default();
+        let all = Row::ALL.len() + 29;
+        assert_eq!(tally.never_reached().len(), all);
+        tally.count(Kind::Timer { now: 0 }, Said { number: 0, row: Some(Row::ALL[0]) });
+        tally.count(Kind::Read, Said { number: 104, row: None });
+        assert_eq!(tally.calls, 2);
+        assert_eq!(tally.rows_reached(), 1);
+        let missing = tally.never_reached();
+        assert_eq!(missing.len(), all - 2);
+        assert!(!missing.contains(&"read D4".to_string()));
+        assert!(missing.contains(&"write D4".to_string()));
+        assert!(missing.contains(&"fresh refused 10".to_string()));
+    }
+
+    #[test]
+    fn numbers_have_commas_at_the_thousands() {
+        assert_eq!(with_commas(0), "0");
+        assert_eq!(with_commas(999), "999");
+        assert_eq!(with_commas(1_000), "1,000");
+        assert_eq!(with_commas(1_234_567), "1,234,567");
+    }
+}
