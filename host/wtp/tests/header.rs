@@ -8,9 +8,13 @@ const HEADER: &str = include_str!("../../../include/wtp.h");
 const WRAPPER: &str = include_str!("../src/ffi.rs");
 const PROVED: &str = include_str!("../../../crates/wtp/src/lib.rt");
 
+fn without_comments() -> String {
+    HEADER.split("*/").map(|piece| piece.split("/*").next().unwrap()).collect()
+}
+
 /// Each function of the header with the Rust types of its parameters.
 fn declared_in_c() -> BTreeMap<String, Vec<String>> {
-    let code = HEADER.split("*/").map(|piece| piece.split("/*").next().unwrap()).collect::<String>();
+    let code = without_comments();
     let prototypes = code.split(';').filter_map(|piece| piece.split_once("uint64_t wtp_"));
     prototypes.map(|(_, rest)| function(rest, |parameter| in_rust(parameter.trim()))).collect()
 }
@@ -70,7 +74,7 @@ fn value(name: &str) -> usize {
 }
 
 fn enumerators() -> BTreeMap<String, usize> {
-    let code = HEADER.split("*/").map(|piece| piece.split("/*").next().unwrap()).collect::<String>();
+    let code = without_comments();
     let mut values = BTreeMap::new();
     for list in code.split("enum {").skip(1) {
         let mut next = 0;
