@@ -6,7 +6,7 @@ ghost use lib.Dec.{ltb};
 ghost use Rattle.words.specs.Said.{word};
 ghost use Rattle.writer.specs.Write.{kindFault, restFault};
 ghost use Rattle.judge.specs.Length.{placed, headerSaid, formLength, lengthSaid};
-ghost use Rattle.judge.specs.Widths.{longestSaid, widestItem, widest, noneTooWide, inside, fits};
+ghost use Rattle.judge.specs.Widths.{longestSaid, widestItem, noneTooWide, inside, fits};
 ghost use Rattle.judge.specs.Judge.{itemsInside, faultIn, judgedOf};
 use items::Item;
 use numbers::Malformed;
@@ -116,26 +116,20 @@ fn widest_item(words: &[u64], k: usize, j: usize) -> u64
     }
 }
 
-// The widest value of the word i.
-fn widest_at(words: &[u64], i: usize) -> u64
-    requires { ⌜ (88 ≤ length (now words)) × (word (now words) 0 < 8) × (i < 88) ⌝ }
-    ensures { λ r. ⌜ r ≡ widest (now (words .entry)) i ⌝ }
-{
-    if i < 24 {
-        WIDTHS[i][words[0] as usize]
-    } else {
-        widest_item(words, (i - 24) / 4, (i - 24) % 4)
-    }
-}
-
 // Whether no word is too wide for its place.
 fn none_too_wide(words: &[u64]) -> bool
     requires { ⌜ (88 ≤ length (now words)) × (word (now words) 0 < 8) ⌝ }
     ensures { λ r. ⌜ r ≡ noneTooWide (now (words .entry)) ⌝ }
 {
+    let widths = WIDTHS;
     let mut i = 0;
     while i < 88 {
-        if widest_at(words, i) < words[i] {
+        let most = if i < 24 {
+            widths[i][words[0] as usize]
+        } else {
+            widest_item(words, (i - 24) / 4, (i - 24) % 4)
+        };
+        if most < words[i] {
             return false;
         }
         i += 1;
