@@ -1,6 +1,6 @@
 # Sets `cargo` and its environment for Rust programs over the library, which is x86-64 code: elsewhere cargo and rustc of the
 # distribution, whose standard library for x86-64 is a package too. Sourced at the repository's root.
-. scripts/cross.sh
+. scripts/library.sh
 cargo=cargo
 export CARGO_TARGET_DIR="$PWD/target/host"
 export CARGO_BUILD_TARGET=x86_64-unknown-linux-gnu
@@ -17,19 +17,6 @@ elif ! has cargo; then
     fetch cargo
 fi
 programs="$CARGO_TARGET_DIR/$CARGO_BUILD_TARGET/release"
-
-# library: proves and builds the library where it isn't there or a crate is newer, with a line for each crate that has to be proved.
-library() {
-    local archive=target/staticlib/libwtp.a
-    if [ -f "$archive" ] && [ -z "$(find crates crates.txt -newer "$archive" -print -quit)" ]; then
-        return
-    fi
-    mkdir -p target
-    if ! rt staticlib wtp 2>&1 | tee target/library.log | sed -n '/^rt:/p' >&2; then
-        echo "the library isn't built: target/library.log says why" >&2
-        return 1
-    fi
-}
 
 # build CARGO-ARGUMENT...: builds programs over the library, into $programs.
 build() {

@@ -2,10 +2,12 @@
 # Builds the proved library and runs the example programs beside this file over it.
 set -euo pipefail
 cd "$(dirname "$0")/../.."
-. examples/c/tools.sh
+. scripts/library.sh
 
-rt staticlib wtp
-for program in read_pdus transaction; do
-    build "$program"
-    $runner "target/examples/$program"
+library
+mkdir -p target/examples
+for name in read_pdus transaction; do
+    program="target/examples/$name"
+    "$compiler" -std=c99 -Wall -Wextra -pedantic -O2 -static -no-pie -Iinclude "examples/c/$name.c" target/staticlib/libwtp.a -o "$program"
+    $runner "$program"
 done

@@ -1,0 +1,46 @@
+//! The twin: the same calls in plain Rust.
+
+use super::{Buffers, Named, Side, Twin, PEER};
+use twin::Lent;
+
+fn lend(lent: &mut Buffers) -> Lent {
+    Lent { table: &mut lent.table, store: &mut lent.store, out: &mut lent.out, answer: &mut lent.answer }
+}
+
+impl Side for Twin {
+    fn request(&self, lent: &mut Buffers, now: u64, class: u64, data: &[u8]) -> u64 {
+        twin::request(lend(lent), now, PEER, class, 0, data).number
+    }
+
+    fn answer(&self, lent: &mut Buffers, now: u64, of: &Named, exit: &[u8]) -> u64 {
+        twin::answer(lend(lent), now, of.role, PEER, of.tid, exit).number
+    }
+
+    fn result(&self, lent: &mut Buffers, now: u64, of: &Named, data: &[u8]) -> u64 {
+        twin::result(lend(lent), now, of.role, PEER, of.tid, data).number
+    }
+
+    fn receive(&self, lent: &mut Buffers, now: u64, pdu: &[u8]) -> u64 {
+        twin::receive(lend(lent), now, PEER, pdu).number
+    }
+
+    fn timer(&self, lent: &mut Buffers, now: u64) -> u64 {
+        twin::timer(lend(lent), now).number
+    }
+
+    fn read(&self, lent: &mut Buffers, pdu: &[u8]) -> u64 {
+        twin::read(pdu, &mut lent.words)
+    }
+
+    fn write(&self, lent: &mut Buffers, fields: &[u64], bytes: &[u8]) -> u64 {
+        twin::write(fields, bytes, &mut lent.out, &mut lent.answer)
+    }
+
+    fn separate(&self, lent: &mut Buffers, datagram: &[u8], place: u64) -> u64 {
+        twin::separate(datagram, place, &mut lent.words)
+    }
+
+    fn join(&self, lent: &mut Buffers, bytes: &[u8], lengths: &[u64]) -> u64 {
+        twin::join(bytes, lengths, &mut lent.out, &mut lent.answer)
+    }
+}
