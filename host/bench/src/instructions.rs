@@ -13,7 +13,7 @@ fn row(line: &str) -> Option<(String, [u64; 2])> {
     let mut parts = line.split('\t');
     let key = parts.next()?.to_string();
     let counts = [parts.next()?.parse().ok()?, parts.next()?.parse().ok()?];
-    parts.next().is_none().then(|| (key, counts))
+    parts.next().is_none().then_some((key, counts))
 }
 
 #[cfg(test)]

@@ -51,7 +51,7 @@ fn one(key: &str, side: &str, times: u64) -> Result<(), String> {
     let (_, calls) = SIDES.iter().find(|(name, _)| *name == side).ok_or_else(|| format!("no side '{side}'"))?;
     let sum = ns::repeat(&case, *calls, &mut case.start.clone(), times);
     let right = if side == "nothing" { 0 } else { case.number * times };
-    (sum == right).then(|| ()).ok_or_else(|| format!("'{key}' didn't answer the same each time"))
+    (sum == right).then_some(()).ok_or_else(|| format!("'{key}' didn't answer the same each time"))
 }
 
 fn table(quick: bool, file: Option<&str>) -> Result<(), String> {

@@ -2,6 +2,7 @@
 
 use crate::cases::Case;
 use crate::ns::Ns;
+use kit::with_commas;
 
 pub const HEAD: &str = "\
 | Call | Records | Instructions, library | twin | ratio | ns, library | twin | ratio | spread |
@@ -11,7 +12,7 @@ pub const HEAD: &str = "\
 pub fn row(case: &Case, counts: Option<&[u64; 2]>, ns: &[Ns; 2]) -> String {
     let records = case.records.map_or("".to_string(), |records| records.to_string());
     let counted = counts.map_or("not counted | | ".to_string(), |[library, twin]| {
-        format!("{} | {} | {:.2}", thousands(*library), thousands(*twin), *library as f64 / *twin as f64)
+        format!("{} | {} | {:.2}", with_commas(*library), with_commas(*twin), *library as f64 / *twin as f64)
     });
     let [library, twin] = ns;
     let ratio = library.median / twin.median;
@@ -19,34 +20,15 @@ pub fn row(case: &Case, counts: Option<&[u64; 2]>, ns: &[Ns; 2]) -> String {
     format!(
         "| {} | {records} | {counted} | {} | {} | {ratio:.2} | {spread:.0} % |",
         case.name,
-        thousands(library.median.round() as u64),
-        thousands(twin.median.round() as u64),
+        with_commas(library.median.round() as u64),
+        with_commas(twin.median.round() as u64),
     )
-}
-
-/// A number with a comma before each three digits.
-fn thousands(number: u64) -> String {
-    let digits = number.to_string();
-    let mut text = String::new();
-    for (place, digit) in digits.chars().enumerate() {
-        if place > 0 && (digits.len() - place) % 3 == 0 {
-            text.push(',');
-        }
-        text.push(digit);
-    }
-    text
 }
 
 #[cfg(test)]
 mod tests {
     use super::*;
     use crate::cases;
-
-    #[test]
-    fn three_digits_stay_together() {
-        let said = [0, 999, 1_000, 12_345, 1_234_567].map(thousands);
-        assert_eq!(said, ["0", "999", "1,000", "12,345", "1,234,567"]);
-    }
 
     #[test]
     fn a_row_has_as_many_columns_as_the_head() {

@@ -3,7 +3,7 @@
 use crate::calls::Name;
 use crate::layout::{LAST_TIME, LONGEST};
 use crate::view::View;
-use random::Random;
+use kit::Random;
 
 /// Where a PDU seems to come from: its peer, its TID of 16 bits, and a type that suits.
 pub struct Source {

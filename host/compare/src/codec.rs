@@ -2,7 +2,7 @@
 
 use crate::calls::{Call, Kind};
 use crate::pdus;
-use random::Random;
+use kit::Random;
 use wtp::ffi::FIELDS;
 
 /// Where the words of the items begin.

@@ -1,7 +1,7 @@
 //! Damages a table: fields just in or out of range, octets at random, names twice, and odd records that are still well formed.
 
 use crate::layout::{self, Field};
-use random::Random;
+use kit::Random;
 
 /// The fields of a record; what RCR and AEC may be is what the settings say.
 const OF_RECORD: [Field; 9] = [

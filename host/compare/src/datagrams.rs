@@ -2,7 +2,7 @@
 
 use crate::calls::{Call, Kind};
 use crate::pdus;
-use random::Random;
+use kit::Random;
 
 /// A datagram to be separated, damaged now and then.
 pub fn draw_separate(random: &mut Random, call: &mut Call) {

@@ -4,7 +4,7 @@ use crate::aim;
 use crate::calls::{Call, Kind};
 use crate::pdus;
 use crate::view::View;
-use random::Random;
+use kit::Random;
 
 /// A PDU that the engine sent, and the peer to which it goes.
 #[derive(Default)]

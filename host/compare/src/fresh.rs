@@ -1,7 +1,7 @@
 //! Settings and first GenTIDs for the fresh-table call: good ones that let timers come due, and wrong ones.
 
 use crate::layout::LONGEST;
-use random::Random;
+use kit::Random;
 use wtp::ffi::SETTINGS;
 
 const INTERVALS: std::ops::Range<usize> = 2..22;

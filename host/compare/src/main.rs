@@ -25,11 +25,10 @@ mod tally;
 mod view;
 
 use args::Task;
+use kit::{with_commas, Random};
 use pair::{End, Pair};
-use random::Random;
 use std::io::{stderr, stdout, Write};
 use std::process::ExitCode;
-use tally::with_commas;
 use twin::Row;
 
 const FAILED: u8 = 1;

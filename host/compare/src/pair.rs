@@ -4,8 +4,8 @@ use crate::buffers::Buffers;
 use crate::calls::Call;
 use crate::differences::{self, Difference};
 use crate::sides::{Said, Side};
-use crate::tally::{with_commas, Tally};
-use random::Random;
+use crate::tally::Tally;
+use kit::{with_commas, Random};
 use std::io::{stderr, Write};
 use std::panic::{catch_unwind, AssertUnwindSafe};
 

@@ -1,6 +1,6 @@
 //! Builds PDUs of the seven types from random fields, and damages some of them.
 
-use random::Random;
+use kit::Random;
 
 /// The longest PDU.
 pub const LONGEST: usize = 1500;

@@ -6,7 +6,7 @@ use crate::differences::Place;
 use crate::pair::{End, Found, Pair};
 use crate::session::play_all;
 use crate::sides::{library, Said, Side};
-use random::Random;
+use kit::Random;
 
 fn played(seed: u64, calls: u64, twin: Side) -> (Pair, End) {
     let mut pair = Pair::new([library, twin], calls);

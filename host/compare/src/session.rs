@@ -10,7 +10,7 @@ use crate::layout;
 use crate::pair::{End, Pair};
 use crate::sizes;
 use crate::view::View;
-use random::Random;
+use kit::Random;
 
 pub struct Session<'a> {
     random: &'a mut Random,

@@ -2,7 +2,7 @@
 
 use crate::calls::{Kind, Sizes};
 use crate::layout;
-use random::Random;
+use kit::Random;
 use wtp::ffi::{ANSWER, FIELDS, OUTPUT, PART, SENDING};
 
 /// The sizes that the call asks for, with an output that may be longer.

@@ -2,6 +2,7 @@
 
 use crate::calls::Kind;
 use crate::sides::Said;
+use kit::with_commas;
 use std::collections::BTreeMap;
 use std::fmt;
 use twin::Row;
@@ -66,19 +67,6 @@ fn outcome(number: u64) -> String {
     }
 }
 
-/// A number with a comma after each three digits.
-pub fn with_commas(number: u64) -> String {
-    let digits = number.to_string();
-    let mut told = String::new();
-    for (at, digit) in digits.chars().enumerate() {
-        if at > 0 && (digits.len() - at) % 3 == 0 {
-            told.push(',');
-        }
-        told.push(digit);
-    }
-    told
-}
-
 impl fmt::Display for Tally {
     fn fmt(&self, f: &mut fmt::Formatter) -> fmt::Result {
         Row::ALL.iter().try_for_each(|row| writeln!(f, "{:>11}  {}", with_commas(self.row(*row)), row.name()))?;
@@ -104,13 +92,5 @@ mod tests {
         assert!(!missing.contains(&"read D4".to_string()));
         assert!(missing.contains(&"write D4".to_string()));
         assert!(missing.contains(&"fresh refused 10".to_string()));
-    }
-
-    #[test]
-    fn numbers_have_commas_at_the_thousands() {
-        assert_eq!(with_commas(0), "0");
-        assert_eq!(with_commas(999), "999");
-        assert_eq!(with_commas(1_000), "1,000");
-        assert_eq!(with_commas(1_234_567), "1,234,567");
     }
 }

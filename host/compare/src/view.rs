@@ -1,7 +1,7 @@
 //! What a table holds, as far as calls are aimed at it.
 
 use crate::layout::{self, Field};
-use random::Random;
+use kit::Random;
 
 #[derive(Clone, Copy, Debug, PartialEq, Eq)]
 pub struct Live {

@@ -2,7 +2,7 @@
 
 use crate::args::Given;
 use crate::line::{Faults, Line};
-use random::Random;
+use kit::Random;
 use wtp::{Settings, Table};
 
 pub const DEFAULT_ADDRESS: &str = "127.0.0.1:9201";

@@ -1,7 +1,7 @@
 //! What is sent goes through a line that may lose, double and delay it, so that one packet overtakes another.
 
 use crate::step::Packet;
-use random::Random;
+use kit::Random;
 use std::collections::BTreeMap;
 use std::fmt;
 

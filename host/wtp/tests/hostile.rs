@@ -3,7 +3,7 @@
 mod common;
 
 use common::{initiator, responder, table, PEER, SETTINGS};
-use random::Random;
+use kit::Random;
 use wtp::{codec, Name, Refused, Shown, Table, Taken};
 
 const PDUS: usize = 10_000;

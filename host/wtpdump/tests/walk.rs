@@ -1,6 +1,6 @@
 //! The walk and the library say the same of every PDU and every datagram.
 
-use random::Random;
+use kit::Random;
 use wtp::codec::{read, separate};
 use wtp::Refused;
 use wtpdump::{fault, unseparated, Fault};

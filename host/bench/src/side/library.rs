@@ -3,7 +3,7 @@
 use super::{Buffers, Library, Named, Side, PEER};
 use wtp::ffi::{self, Lent, Record};
 
-fn lend(lent: &mut Buffers) -> Lent {
+fn lend(lent: &mut Buffers) -> Lent<'_> {
     Lent { table: &mut lent.table, store: &mut lent.store, out: &mut lent.out, answer: &mut lent.answer }
 }
 

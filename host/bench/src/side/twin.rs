@@ -3,7 +3,7 @@
 use super::{Buffers, Named, Side, Twin, PEER};
 use twin::Lent;
 
-fn lend(lent: &mut Buffers) -> Lent {
+fn lend(lent: &mut Buffers) -> Lent<'_> {
     Lent { table: &mut lent.table, store: &mut lent.store, out: &mut lent.out, answer: &mut lent.answer }
 }
 

@@ -1,13 +1,13 @@
 //! Datagrams that no honest peer sends: nothing is lost, nothing is shown as a value, nothing panics.
 
 use crate::world::{table, value, World, INTERVAL, MANNER, NO_FAULTS, PATIENCE};
+use kit::Random;
 use link::book::{Book, Entry};
 use link::desk::Desk;
 use link::outcome::{Kind, Outcome, Why};
 use link::payload::Sampler;
 use link::round::Round;
 use link::step::Packet;
-use random::Random;
 
 fn random_octets(random: &mut Random) -> Vec<u8> {
     let longest = if random.percent(5) { 1_600 } else { 12 };

@@ -1,7 +1,5 @@
 //! A small source of random numbers (splitmix64): the same seed gives the same numbers on every machine.
 
-#![forbid(unsafe_code)]
-
 pub struct Random {
     state: u64,
 }
