@@ -165,13 +165,17 @@ static void clock_case(size_t chosen)
     printf("%s\t%.0f\t%.0f\t%.0f\n", cases[chosen].name, rounds[0][ROUNDS / 2], rounds[1][ROUNDS / 2], spread);
 }
 
-static int one(size_t chosen, const char *name, const char *times)
+static void one(size_t chosen, const char *name, const char *times)
 {
     struct octets written;
-    const struct side *side = strcmp(name, kannel.name) == 0 ? &kannel : &library;
+    const struct side *side = NULL;
+    for (int k = 0; k < 2; k++)
+        if (strcmp(name, sides[k]->name) == 0)
+            side = sides[k];
+    if (side == NULL)
+        stop_with(name, "no such side: library or kannel");
     prepare(side, chosen);
     run(side, chosen, strtoull(times, NULL, 10), &written);
-    return 0;
 }
 
 int main(int count, char **arguments)
@@ -186,8 +190,10 @@ int main(int count, char **arguments)
             clock_case(k);
             return 0;
         }
-        if (count == 5 && strcmp(arguments[1], "--one") == 0 && strcmp(arguments[2], cases[k].name) == 0)
-            return one(k, arguments[3], arguments[4]);
+        if (count == 5 && strcmp(arguments[1], "--one") == 0 && strcmp(arguments[2], cases[k].name) == 0) {
+            one(k, arguments[3], arguments[4]);
+            return 0;
+        }
     }
     fputs("usage: kannel --list | --clock CASE | --one CASE library|kannel TIMES\n", stderr);
     return 2;
