@@ -4,6 +4,7 @@ set -euo pipefail
 cd "$(dirname "$0")/../.."
 . host/tools.sh
 . scripts/cases.sh
+has python3 || fetch python3
 
 build --package gateway --package reader
 work="$(mktemp -d)"

@@ -5,6 +5,7 @@ set -euo pipefail
 cd "$(dirname "$0")/../.."
 . host/tools.sh
 . scripts/cases.sh
+has c++ || fetch g++
 
 work="$(mktemp -d)"
 trap 'rm -rf "$work"' EXIT
