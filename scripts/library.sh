@@ -29,7 +29,7 @@ library() {
         return
     fi
     mkdir -p target
-    if ! rt staticlib wtp 2>&1 | tee target/library.log | sed -n '/^rt:/p' >&2; then
+    if ! rt staticlib wtp 2>&1 | tee target/library.log | sed -u -n '/^rt:/p' >&2; then
         echo "the library isn't built: target/library.log says why" >&2
         return 1
     fi
