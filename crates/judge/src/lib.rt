@@ -121,6 +121,7 @@ fn none_too_wide(words: &[u64]) -> bool
     requires { ⌜ (88 ≤ length (now words)) × (word (now words) 0 < 8) ⌝ }
     ensures { λ r. ⌜ r ≡ noneTooWide (now (words .entry)) ⌝ }
 {
+    // A constant array is set up where it is named: here once, not once a word.
     let widths = WIDTHS;
     let mut i = 0;
     while i < 88 {

@@ -23,31 +23,31 @@ Inv-loop words widths i₀ i = (i ≤ 88) × (every (narrowAt words) i ≡ true)
 abbrev μ-loop : tie.MeasureT-loop
 μ-loop words widths i₀ i = 88 - i
 
--- src/lib.rt:126:5
+-- src/lib.rt:127:5
 loop-holds : tie.Need-loop-holds Inv-loop μ-loop
 loop-holds c = (omega arith, every-none (narrowAt (now (c .before .args .words))))
 
--- src/lib.rt:128:23
+-- src/lib.rt:129:23
 shared-slice-read-most : tie.Need-shared-slice-read-most Inv-loop μ-loop
 shared-slice-read-most c = search needs
 
--- src/lib.rt:128:13
+-- src/lib.rt:129:13
 mul-most : tie.Need-mul-most Inv-loop μ-loop
 mul-most c = search needs
 
--- src/lib.rt:128:13
+-- src/lib.rt:129:13
 mul-most-2 : tie.Need-mul-most-2 Inv-loop μ-loop
 mul-most-2 c = search needs
 
--- src/lib.rt:128:13
+-- src/lib.rt:129:13
 index-1-most : tie.Need-index-1-most Inv-loop μ-loop
 index-1-most c = search needs
 
--- src/lib.rt:128:13
+-- src/lib.rt:129:13
 index-2-most : tie.Need-index-2-most Inv-loop μ-loop
 index-2-most c = search needs
 
--- src/lib.rt:130:13
+-- src/lib.rt:131:13
 widest-item-requires : tie.Need-widest-item-requires Inv-loop μ-loop
 widest-item-requires c κs = search needs
 
@@ -60,15 +60,15 @@ most-is c = ⊎-elim
     (λ w. w .2 ∙ simp (w .1 .ensures, le-ltb _ _ (w .0 .left)))
     (c .if1 .came)
 
--- src/lib.rt:132:19
+-- src/lib.rt:133:19
 mul-if2 : tie.Need-mul-if2 Inv-loop μ-loop
 mul-if2 c = search needs
 
--- src/lib.rt:132:19
+-- src/lib.rt:133:19
 shared-slice-read-if2 : tie.Need-shared-slice-read-if2 Inv-loop μ-loop
 shared-slice-read-if2 c = search needs
 
--- src/lib.rt:133:13
+-- src/lib.rt:134:13
 returns : tie.Need-returns Inv-loop μ-loop
 unfolding noneTooWide
 returns c =
@@ -77,15 +77,15 @@ returns c =
     let wide : widest w i < word w i = rw (most-is (c .before .before)) at (c .if2 .taken) in
     sym (every-fails (narrowAt w) 88 i (c .before .before .before .loop-test .taken) (lt-leb (word w i) (widest w i) wide))
 
--- src/lib.rt:135:9
+-- src/lib.rt:136:9
 add-i : tie.Need-add-i Inv-loop μ-loop
 add-i c = search needs
 
--- src/lib.rt:126:5
+-- src/lib.rt:127:5
 loop-less : tie.Need-loop-less Inv-loop μ-loop
 loop-less c = search needs
 
--- src/lib.rt:126:5
+-- src/lib.rt:127:5
 loop-again : tie.Need-loop-again Inv-loop μ-loop
 loop-again c =
     let w = now (c .before .before .before .before .before .before .args .words) in

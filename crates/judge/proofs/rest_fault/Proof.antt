@@ -8,26 +8,26 @@ use Rattle.judge.proofs.rest_fault.Reads as reads
 use Rattle.judge.proofs.rest_fault.Lts as lts
 use Rattle.pdu.proofs.bare.Reads as bare-reads
 
--- src/lib.rt:223:9
+-- src/lib.rt:218:9
 returns : tie.Need-returns
 unfolding restFault
 returns c = simp (lt-ltb _ _ (c .if1 .taken))
 
--- src/lib.rt:225:8
+-- src/lib.rt:220:8
 bare-requires : tie.Need-bare-requires
 bare-requires c κs = search needs
 
--- src/lib.rt:218:1
+-- src/lib.rt:213:1
 returns-2 : tie.Need-returns-2
 unfolding restFault
 returns-2 c = simp (eq-eqb _ _ (c .if3 .taken), c .before .before .if2 .taken, ← (c .before .before .before .bare .ensures), le-ltb _ _ (c .before .before .before .before .if1 .left))
 
--- src/lib.rt:218:1
+-- src/lib.rt:213:1
 returns-3 : tie.Need-returns-3
 unfolding restFault
 returns-3 c = simp (ne-eqb _ _ (c .if3 .left), c .before .before .if2 .taken, ← (c .before .before .before .bare .ensures), le-ltb _ _ (c .before .before .before .before .if1 .left))
 
--- src/lib.rt:218:1
+-- src/lib.rt:213:1
 returns-4 : tie.Need-returns-4
 unfolding restFault
 returns-4 c = simp (c .if2 .left, ← (c .before .bare .ensures), le-ltb _ _ (c .before .before .if1 .left))
