@@ -1,0 +1,145 @@
+"""The commands of a scenario, and the lines that the player must print for them: what the engine read from document 01 gives, in words."""
+from engine import NO_DATA, ROLES, Table, ends, lend, make_fresh, primitive, reached, receive, request, settings, table_bytes, timer
+from notation import text_of
+
+
+# ---- what the player prints
+
+def outcome(n):
+    return ": ok" if n == 0 else ": refused %d" % n
+
+
+def shown_text(end, s, words):
+    kind, role, peer, tid = words[:4]
+    source, start, length = words[8:]
+    text = "; %s %s %d/%d" % (kind, ROLES[role], peer, tid)
+    text += "".join(" %s %d" % kv for kv in zip(("class", "up", "type", "reason"), words[4:8]) if kv[1])
+    if (source, start, length) == NO_DATA:
+        return text + " no data"
+    text += " %s %d+%d" % (("datagram", "store")[source], start, length)
+    return text + (" " + text_of((end.store if source else s)[start:start + length]) if length else "")
+
+
+def answer_text(end, result, s=b"", name=""):
+    n, c = result
+    text = outcome(n) + (c.met if c else "")
+    if n:
+        return text
+    if c.sent:
+        text += "; sent " + text_of(c.sent)
+    if c.tid is not None:
+        text += "; tid %d" % c.tid
+    if name == "timer":
+        text += "; fired %s %d/%d" % (ROLES[c.fired[0]], c.fired[1], c.fired[2]) if c.fired else "; none due"
+    return text + "".join(shown_text(end, s, w) for w in c.shown)
+
+
+def look_text(end):
+    t = Table(end.octets[:table_bytes(end.records)])
+    text = ": clock %d, next TID %d" % (t.clock, t.gen) + "".join(", last of %d is %d" % (p, x) for p, x in enumerate(t.last) if x >= 0)
+    for k, r in enumerate(t.records):
+        if r.live():
+            text += "; record %d %s %d/%d RCR %d AEC %d due %d length %d" % (k, r.state, r.peer, r.tid, r.rcr, r.aec, r.deadline, r.length)
+            text += "".join(" " + mark for mark, on in (("user-ack", r.up), ("HoldOn", r.held), ("TIDok-sent", r.tidok_sent), ("hold-on-sent", r.hold_on_sent)) if on)
+            text += " exit " + text_of(r.exit) if r.exit else ""
+    return text
+
+
+# ---- the commands of a scenario
+
+lines, expected, titles = [], [], []
+R, G = 0, 1  # the reader's end and the gateway's
+
+
+def add(line, shown, has=None):
+    lines.append(line)
+    expected.append(line + shown)
+    for part in [has] if isinstance(has, str) else has or []:
+        assert part in shown, "%r isn't in %r" % (part, line + shown)
+
+
+def title(text):
+    titles.append(text)
+    add("# %d. %s" % (len(titles), text), "")
+
+
+def octets(*parts):
+    return b"".join(bytes.fromhex(p) if isinstance(p, str) else bytes(p) for p in parts)
+
+
+def sets(**words):
+    """Settings: RCR_MAX 4, AEC_MAX 2, A 1,000, W 5,000, R 2,000 and 3,000 growing by 100, and what is named."""
+    settings[:] = [4, 2, 1000, 5000] + [2000 + 100 * k for k in range(9)] + [3000 + 100 * k for k in range(9)] + [0] * 10
+    for k, v in words.items():
+        settings[int(k[1:])] = v
+    add("set" + "".join(" %s=%d" % (k[1:], v) for k, v in words.items()), "")
+
+
+def fresh(e, records=2, first=7, has=": ok"):
+    ends[e].records = records
+    add("fresh %d %d %d" % (e, records, first), outcome(make_fresh(ends[e], first)), has)
+
+
+def lends(*sizes):
+    """How much is lent from now on of table, store, output, answer and settings; nothing: what is right."""
+    lend[:] = list(sizes) or [None] * 5
+    add("lend" + "".join(" %d" % x for x in sizes), "")
+
+
+def put(e, at, value):
+    was = ends[e].octets[at]
+    ends[e].octets[at] = value
+    add("put %d %d %d" % (e, at, value), ": was %d" % was)
+
+
+def req(e, time, peer, cls, up=0, d="", has=None):
+    d = octets(d)
+    add("req %d %d %d %d %d /%s" % (e, time, peer, cls, up, text_of(d)), answer_text(ends[e], request(ends[e], time, peer, cls, up, d)), has)
+
+
+def ans(e, time, role, peer, tid, x="", has=None):
+    x = octets(x)
+    add("ans %d %d %d %d %d /%s" % (e, time, role, peer, tid, text_of(x)), answer_text(ends[e], primitive("answer", ends[e], time, role, peer, tid, x, 128)), has)
+
+
+def res(e, time, role, peer, tid, d="", has=None):
+    d = octets(d)
+    add("res %d %d %d %d %d /%s" % (e, time, role, peer, tid, text_of(d)), answer_text(ends[e], primitive("result", ends[e], time, role, peer, tid, d, 1024)), has)
+
+
+def abo(e, time, role, peer, tid, reason, has=None):
+    add("abo %d %d %d %d %d %d" % (e, time, role, peer, tid, reason), answer_text(ends[e], primitive("abort", ends[e], time, role, peer, tid, bytes([reason]), 1)), has)
+
+
+def rcv(e, time, peer, *parts, has=None):
+    s = octets(*[p.replace(" ", "") if isinstance(p, str) else p for p in parts])
+    add("rcv %d %d %d /%s" % (e, time, peer, text_of(s)), answer_text(ends[e], receive(ends[e], time, peer, s), s), has)
+
+
+def get(e, time, peer, has=None):
+    """The PDU that the other end sent last."""
+    s = ends[1 - e].last
+    add("get %d %d %d" % (e, time, peer), answer_text(ends[e], receive(ends[e], time, peer, s), s), has)
+
+
+def tim(e, time, has=None):
+    add("tim %d %d" % (e, time), answer_text(ends[e], timer(ends[e], time), name="timer"), has)
+
+
+def look(e, has=None):
+    add("look %d" % e, look_text(ends[e]), has)
+
+
+def size(records, has):
+    add("bytes %d" % records, ": %d" % table_bytes(records), has)
+
+
+def pair(records=2, first=7, **words):
+    sets(**words)
+    fresh(R, records, first)
+    fresh(G, records, first)
+
+
+def edge(text):
+    """The edge case of the refusals that the line before shows."""
+    reached.add(("edge", text, ""))
