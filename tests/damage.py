@@ -4,7 +4,9 @@
 An independent reading of document 01's "well formed" over the layout of docs/TABLE.md; nothing here is taken from the definitions or the code.
 usage: tests/damage.py [--check]
 """
+import functools
 import pathlib
+import struct
 import sys
 
 HEADER, RECORD, COUNT = 624, 160, 2
@@ -16,13 +18,15 @@ def number(octets):
     return int.from_bytes(octets, "little")
 
 
+# A change of one part leaves the judgement of the others, which is remembered.
+@functools.lru_cache
 def header_ok(t):
-    intervals = [number(t[at:at + 4]) for at in range(12, 92, 4)]
-    caches = [number(t[at:at + 2]) for at in range(112, HEADER, 2)]
+    intervals, caches = struct.unpack("<20I", t[12:92]), struct.unpack("<256H", t[112:HEADER])
     return (number(t[0:8]) <= 10 ** 12 and number(t[8:10]) <= 32767 and t[10] <= 8 and t[11] <= 8
-            and all(1 <= x <= 86400000 for x in intervals) and not any(t[92:112]) and all(c <= 32768 for c in caches))
+            and min(intervals) >= 1 and max(intervals) <= 86400000 and not any(t[92:112]) and max(caches) <= 32768)
 
 
+@functools.lru_cache
 def record_ok(r, rcr_max, aec_max):
     if r[0] == 0:
         return not any(r)
@@ -35,9 +39,9 @@ def name(r):
 
 
 def well_formed(t):
-    records = [t[HEADER + RECORD * i:HEADER + RECORD * (i + 1)] for i in range(COUNT)]
+    records = [bytes(t[HEADER + RECORD * i:HEADER + RECORD * (i + 1)]) for i in range(COUNT)]
     live = [name(r) for r in records if r[0]]
-    return header_ok(t[:HEADER]) and all(record_ok(r, t[10], t[11]) for r in records) and len(set(live)) == len(live)
+    return header_ok(bytes(t[:HEADER])) and all(record_ok(r, t[10], t[11]) for r in records) and len(set(live)) == len(live)
 
 
 def fresh():
