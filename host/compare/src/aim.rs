@@ -1,8 +1,8 @@
 //! Aims calls at what lives in the table: times about deadlines, names of live records, TIDs about cached ones.
 
 use crate::calls::Name;
-use crate::layout::{LAST_TIME, LONGEST};
 use crate::view::View;
+use kit::layout::{LAST_TIME, LONGEST};
 use kit::Random;
 
 /// Where a PDU seems to come from: its peer, its TID of 16 bits, and a type that suits.
@@ -116,7 +116,7 @@ fn opening(random: &mut Random, view: View) -> Source {
 #[cfg(test)]
 mod tests {
     use super::*;
-    use crate::layout;
+    use kit::layout;
 
     #[test]
     fn a_pdu_for_a_lone_initiator_record_names_it_more_often_than_not() {

@@ -1,7 +1,7 @@
 //! The buffers of one side: a little longer than a call is lent, so that a write past the end is seen too.
 
 use crate::calls::Sizes;
-use crate::layout;
+use kit::layout;
 
 /// Octets past the output that the writer asks for, and words past the fields.
 const OUT: usize = wtp::ffi::OUTPUT + 4;

@@ -1,6 +1,6 @@
 //! Damages a table: fields just in or out of range, octets at random, names twice, and odd records that are still well formed.
 
-use crate::layout::{self, Field};
+use kit::layout::{self, Field};
 use kit::Random;
 
 /// The fields of a record; what RCR and AEC may be is what the settings say.

@@ -1,8 +1,8 @@
 //! Compares what both sides said and left behind, and tells the first difference.
 
 use crate::buffers::Buffers;
-use crate::layout;
 use crate::sides::Said;
+use kit::layout;
 use std::fmt;
 
 /// Stands for the number of a side that panicked.

@@ -1,6 +1,6 @@
 //! Settings and first GenTIDs for the fresh-table call: good ones that let timers come due, and wrong ones.
 
-use crate::layout::LONGEST;
+use kit::layout::LONGEST;
 use kit::Random;
 use wtp::ffi::SETTINGS;
 
@@ -50,7 +50,7 @@ pub fn spoil(random: &mut Random, words: &mut Vec<u64>, first_tid: &mut u64) {
 #[cfg(test)]
 mod tests {
     use super::*;
-    use crate::layout;
+    use kit::layout;
 
     fn fresh(settings: &[u64], first_tid: u64) -> u64 {
         wtp::ffi::fresh(&mut vec![0xFF; layout::table_bytes(1)], settings, first_tid)

@@ -12,7 +12,6 @@ mod datagrams;
 mod differences;
 mod engine;
 mod fresh;
-mod layout;
 mod pair;
 mod pdus;
 #[cfg(test)]

@@ -1,8 +1,8 @@
 //! Tells a difference so that someone can repeat it and look into it.
 
-use crate::layout;
 use crate::pair::Found;
 use crate::view::View;
+use kit::layout;
 use std::fmt::Write;
 
 /// The report of a difference; the text can't fail to be written.

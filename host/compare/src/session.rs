@@ -6,10 +6,10 @@ use crate::damage;
 use crate::datagrams;
 use crate::engine::{self, Sent};
 use crate::fresh;
-use crate::layout;
 use crate::pair::{End, Pair};
 use crate::sizes;
 use crate::view::View;
+use kit::layout;
 use kit::Random;
 
 pub struct Session<'a> {

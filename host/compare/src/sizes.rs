@@ -1,7 +1,7 @@
 //! How much of each buffer a call is lent: what it asks for, seldom a little more or less.
 
 use crate::calls::{Kind, Sizes};
-use crate::layout;
+use kit::layout;
 use kit::Random;
 use wtp::ffi::{ANSWER, FIELDS, OUTPUT, PART, SENDING};
 

@@ -1,6 +1,6 @@
 //! What a table holds, as far as calls are aimed at it.
 
-use crate::layout::{self, Field};
+use kit::layout::{self, Field};
 use kit::Random;
 
 #[derive(Clone, Copy, Debug, PartialEq, Eq)]

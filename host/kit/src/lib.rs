@@ -1,8 +1,9 @@
-//! What the programs share: random numbers that a seed fixes, and figures for people.
+//! What the programs share: random numbers that a seed fixes, figures for people, and where the fields of a table lie.
 
 #![forbid(unsafe_code)]
 
 mod figures;
+pub mod layout;
 mod random;
 
 pub use figures::with_commas;

@@ -1,4 +1,4 @@
-//! Where the fields of a table lie (docs/TABLE.md), so that calls can be aimed at what lives in it and damage at its fields.
+//! Where the fields of a table lie (docs/TABLE.md).
 
 pub const CELL: usize = 1024;
 pub const HEADER: usize = 624;
