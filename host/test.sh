@@ -1,5 +1,6 @@
 #!/usr/bin/env bash
-# Tests the Rust code over the proved library, the programs from outside, and the samples of docs/OUTCOMES.md; the last line counts the cases.
+# Tests what the programs of cases are expected to print, the Rust code over the proved library, the programs from outside, and the samples
+# of docs/OUTCOMES.md; the last line counts the cases.
 set -euo pipefail
 cd "$(dirname "$0")/.."
 . host/tools.sh
@@ -9,6 +10,11 @@ only_there() {
     ! grep -rlw unsafe --include='*.rs' host | grep -vxE 'host/(wtp/src/ffi|link/src/interrupt)\.rs'
 }
 check "unsafe only around the library's calls and around signals" only_there
+
+has python3 || fetch python3
+for script in codec_cases damage scenarios; do
+    check "tests/$script.py: what is expected is what document 01 says, as read there" python3 "tests/$script.py" --check
+done
 
 library
 logs="$CARGO_TARGET_DIR/tests"

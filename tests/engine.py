@@ -158,7 +158,7 @@ def invoke_pdu(tid, cls, up, rid, octets):
 
 # ---- one accepted call
 
-LIBRARY_EVENT = {"Invoke": "Invoke", "Invoke RID": "InvokeRid", "Result cut": "ResultCut", "Result cut RID": "ResultCutRid", "Result": "Result",
+EVENT_NAME = {"Invoke": "Invoke", "Invoke RID": "InvokeRid", "Result cut": "ResultCut", "Result cut RID": "ResultCutRid", "Result": "Result",
                  "Result RID": "ResultRid", "Ack": "PlainAck", "Ack RID": "PlainAck", "Tve": "TidAck", "Tve RID": "TidAckRid", "Abort": "ReceivedAbort",
                  "Segmented Invoke": "Segmented", "Segmented Result": "Segmented", "Nack": "Segmented", "malformed": "MalformedPdu",
                  "answer": "UserAnswer", "result": "UserResult", "abort": "UserAbort", "timer": "Timer", "request": "Request"}
@@ -166,14 +166,14 @@ NO_DATA = (0, 0, 0)
 
 
 class Call:
-    """What an accepted call does: PDU, indications, and the row it meets."""
+    """What an accepted call does: PDU, indications, the row it meets, and the records it changes."""
 
     def __init__(self, end, table, time):
         self.end, self.t, self.time = end, table, time
-        self.sent, self.shown, self.tid, self.fired, self.met, self.refusal = b"", [], None, None, "", 0
+        self.sent, self.shown, self.tid, self.fired, self.met, self.refusal, self.changed = b"", [], None, None, "", 0, []
 
     def meet(self, state, event, row, condition=""):
-        self.met = " {%s %s %s}" % (state, LIBRARY_EVENT[event], row)
+        self.met = " {%s %s %s}" % (state, EVENT_NAME[event], row)
         reached.add((state, event, condition))
         reached.add(("row", row if state != "Free" else "opening " + row, ""))
 
@@ -515,6 +515,12 @@ def sizes_wrong(end):
     return rest != 0 or not 1 <= n <= 48 or lent(end, 1) != CELL * n or lent(end, 2) < 1028 or lent(end, 3) < 32
 
 
+def changed_records(before, after):
+    """Place, state before and state after of each record whose octets differ."""
+    places = enumerate(range(HEADER, len(before), RECORD))
+    return [(k, STATES[before[at]], STATES[after[at]]) for k, at in places if before[at:at + RECORD] != after[at:at + RECORD]]
+
+
 def call(name, end, time, tests, event):
     """One call. `tests` are the conditions of its other numbers on the table as it is; `event` is what it does if none holds."""
     if sizes_wrong(end) or not well_formed(end.octets[:lent(end, 0)]):
@@ -531,6 +537,7 @@ def call(name, end, time, tests, event):
     if c.refusal:
         reached.add((name, c.refusal, ""))
         return c.refusal, c
+    c.changed = changed_records(end.octets[:lent(end, 0)], t.octets())
     end.octets[:lent(end, 0)] = t.octets()
     if c.sent:
         end.last = c.sent

@@ -1,4 +1,4 @@
-"""How the programs of cases print octets (crates/lines)."""
+"""How the programs of cases print octets (crates/lines, host/scenarios)."""
 
 
 def text_of(octets):

@@ -20,11 +20,13 @@ def shown_text(end, s, words):
     return text + (" " + text_of((end.store if source else s)[start:start + length]) if length else "")
 
 
-def answer_text(end, result, s=b"", name=""):
-    n, c = result
-    text = outcome(n) + (c.met if c else "")
-    if n:
-        return text
+def changed_text(c):
+    """The record that the call changed: its place, and its state before and after."""
+    return " {%s}" % ", ".join("%d: %s -> %s" % record for record in c.changed) if c.changed else ""
+
+
+def answer_text(end, c, s=b"", name=""):
+    text = ""
     if c.sent:
         text += "; sent " + text_of(c.sent)
     if c.tid is not None:
@@ -51,11 +53,20 @@ lines, expected, titles = [], [], []
 R, G = 0, 1  # the reader's end and the gateway's
 
 
-def add(line, shown, has=None):
+def add(line, shown, has=None, meant=None):
+    """A line and what it gives. `has` must be in what it gives, or in what is meant where that says more."""
     lines.append(line)
     expected.append(line + shown)
     for part in [has] if isinstance(has, str) else has or []:
-        assert part in shown, "%r isn't in %r" % (part, line + shown)
+        assert part in (meant or shown), "%r isn't in %r" % (part, line + (meant or shown))
+
+
+def add_call(line, end, result, has, s=b"", name=""):
+    """A call. The player can't see rows, so that it prints the record that changed; `has` may name the row that was met instead."""
+    n, c = result
+    given = answer_text(end, c, s, name) if n == 0 else ""
+    assert c is None or len(c.changed) <= 1, "%r changes more than one record" % line
+    add(line, outcome(n) + (changed_text(c) if c else "") + given, has, outcome(n) + (c.met if c else "") + given)
 
 
 def title(text):
@@ -94,36 +105,36 @@ def put(e, at, value):
 
 def req(e, time, peer, cls, up=0, d="", has=None):
     d = octets(d)
-    add("req %d %d %d %d %d /%s" % (e, time, peer, cls, up, text_of(d)), answer_text(ends[e], request(ends[e], time, peer, cls, up, d)), has)
+    add_call("req %d %d %d %d %d /%s" % (e, time, peer, cls, up, text_of(d)), ends[e], request(ends[e], time, peer, cls, up, d), has)
 
 
 def ans(e, time, role, peer, tid, x="", has=None):
     x = octets(x)
-    add("ans %d %d %d %d %d /%s" % (e, time, role, peer, tid, text_of(x)), answer_text(ends[e], primitive("answer", ends[e], time, role, peer, tid, x, 128)), has)
+    add_call("ans %d %d %d %d %d /%s" % (e, time, role, peer, tid, text_of(x)), ends[e], primitive("answer", ends[e], time, role, peer, tid, x, 128), has)
 
 
 def res(e, time, role, peer, tid, d="", has=None):
     d = octets(d)
-    add("res %d %d %d %d %d /%s" % (e, time, role, peer, tid, text_of(d)), answer_text(ends[e], primitive("result", ends[e], time, role, peer, tid, d, 1024)), has)
+    add_call("res %d %d %d %d %d /%s" % (e, time, role, peer, tid, text_of(d)), ends[e], primitive("result", ends[e], time, role, peer, tid, d, 1024), has)
 
 
 def abo(e, time, role, peer, tid, reason, has=None):
-    add("abo %d %d %d %d %d %d" % (e, time, role, peer, tid, reason), answer_text(ends[e], primitive("abort", ends[e], time, role, peer, tid, bytes([reason]), 1)), has)
+    add_call("abo %d %d %d %d %d %d" % (e, time, role, peer, tid, reason), ends[e], primitive("abort", ends[e], time, role, peer, tid, bytes([reason]), 1), has)
 
 
 def rcv(e, time, peer, *parts, has=None):
     s = octets(*[p.replace(" ", "") if isinstance(p, str) else p for p in parts])
-    add("rcv %d %d %d /%s" % (e, time, peer, text_of(s)), answer_text(ends[e], receive(ends[e], time, peer, s), s), has)
+    add_call("rcv %d %d %d /%s" % (e, time, peer, text_of(s)), ends[e], receive(ends[e], time, peer, s), has, s)
 
 
 def get(e, time, peer, has=None):
     """The PDU that the other end sent last."""
     s = ends[1 - e].last
-    add("get %d %d %d" % (e, time, peer), answer_text(ends[e], receive(ends[e], time, peer, s), s), has)
+    add_call("get %d %d %d" % (e, time, peer), ends[e], receive(ends[e], time, peer, s), has, s)
 
 
 def tim(e, time, has=None):
-    add("tim %d %d" % (e, time), answer_text(ends[e], timer(ends[e], time), name="timer"), has)
+    add_call("tim %d %d" % (e, time), ends[e], timer(ends[e], time), has, name="timer")
 
 
 def look(e, has=None):

@@ -1,10 +1,10 @@
 #!/usr/bin/env python3
-"""Writes the scenarios and what they must give: crates/scenarios/stdin and stdout.
+"""Writes the scenarios and what they must give: tests/scenarios/commands.txt and expected.txt.
 
 What they must give is what the engine of tests/engine.py gives, which is an independent reading of document 01: the program's output is
-compared with a second opinion. Only the names of states and rows are those that the program prints.
+compared with a second opinion. Only the names of states are those that the program prints.
 It fails, and names them, if a row, a test of a first Invoke, a refusal or an edge case is not reached; what a scenario is there to show
-is written beside its line as `has` and compared with what the reading gives.
+is written beside its line as `has` and compared with what the reading gives, which names the row that each call meets.
 usage: tests/scenarios.py [--check]   (--check: only say whether both files are as this script writes them)
 """
 import pathlib
@@ -746,12 +746,11 @@ mixups()
 missed = [key for key in needed() if key not in reached]
 if missed or len(titles) < 60:
     sys.exit("scenarios: %d titles; not reached:\n" % len(titles) + "\n".join(" | ".join(map(str, key)) for key in missed))
-assert len("\n".join(lines)) < 65536, "the program reads 65,536 octets"
-crate = pathlib.Path(__file__).resolve().parent.parent / "crates" / "scenarios"
-files = {"stdin": "\n".join(lines) + "\n", "stdout": "\n".join(expected) + "\n"}
+folder = pathlib.Path(__file__).resolve().parent / "scenarios"
+files = {"commands.txt": "\n".join(lines) + "\n", "expected.txt": "\n".join(expected) + "\n"}
 if "--check" in sys.argv[1:]:
-    wrong = [name for name, text in files.items() if (crate / name).read_text() != text]
+    wrong = [name for name, text in files.items() if (folder / name).read_text() != text]
     sys.exit("scenarios: " + ", ".join(wrong) + " differ from document 01 as read here" if wrong else 0)
 for name, text in files.items():
-    (crate / name).write_text(text)
+    (folder / name).write_text(text)
 print("%d scenarios, %d lines" % (len(titles), len(lines)))

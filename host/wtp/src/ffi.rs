@@ -28,6 +28,7 @@ pub struct Lent<'a> {
 }
 
 /// Role, peer and TID of a record, as the library takes them.
+#[derive(Clone, Copy)]
 pub struct Record {
     pub role: u64,
     pub peer: u64,

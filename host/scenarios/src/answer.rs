@@ -1,0 +1,130 @@
+//! What an accepted call gave, in words; a word that should be 0 and isn't is told too.
+
+use crate::call::Event;
+use crate::desk::{Buffers, UNTOUCHED, UNTOUCHED_WORD};
+use crate::octets::text;
+use std::ops::Range;
+use wtp::ffi::ANSWER;
+
+const SENT: usize = 0;
+const SHOWN: usize = 1;
+const TID: usize = 2;
+const FIRED: usize = 3;
+const FIRST: usize = 4;
+const SECOND: usize = 16;
+const FIRED_NAME: usize = 28;
+const LAST: usize = 31;
+
+/// An answer, and the octets that its places point into.
+pub struct Answer<'a> {
+    pub buffers: &'a Buffers,
+    pub octets: &'a [u8],
+}
+
+impl Answer<'_> {
+    pub fn told(&self, event: Event) -> String {
+        let tid = match event {
+            Event::Request { .. } => format!("; tid {}", self.word(TID)),
+            _ => self.odd(TID..TID + 1),
+        };
+        let fired = match event {
+            Event::Timer => self.fired(),
+            _ => self.odd(FIRED..FIRED + 1) + &self.odd(FIRED_NAME..LAST),
+        };
+        [self.sent(), tid, fired, self.shown(), self.odd(LAST..ANSWER), self.past_the_answer()].concat()
+    }
+
+    /// The octets to send; None where there are fewer.
+    pub fn pdu(&self) -> Option<&[u8]> {
+        self.buffers.out.get(..usize::try_from(self.word(SENT)).ok()?)
+    }
+
+    fn word(&self, place: usize) -> u64 {
+        self.buffers.answer[place]
+    }
+
+    fn odd(&self, places: Range<usize>) -> String {
+        let odd = places.filter(|place| self.word(*place) != 0);
+        odd.map(|place| format!("; word {place} is {}", self.word(place))).collect()
+    }
+
+    /// The PDU at the start of the output; what follows it must be as it was.
+    fn sent(&self) -> String {
+        let pdu = match self.pdu() {
+            Some(pdu) => pdu,
+            None => return format!("; sent too many: {}", self.word(SENT)),
+        };
+        let sent = if pdu.is_empty() { String::new() } else { format!("; sent {}", text(pdu)) };
+        let untouched = self.buffers.out[pdu.len()..].iter().all(|octet| *octet == UNTOUCHED);
+        sent + if untouched { "" } else { "; OUTPUT CHANGED PAST THE PDU" }
+    }
+
+    /// The record that the timer fired, or that none was due.
+    fn fired(&self) -> String {
+        match self.word(FIRED) {
+            0 => "; none due".to_string() + &self.odd(FIRED_NAME..LAST),
+            1 => format!("; fired {}", self.name(FIRED_NAME)),
+            _ => self.odd(FIRED..FIRED + 1),
+        }
+    }
+
+    /// Role, peer and TID in three words from `at` on.
+    fn name(&self, at: usize) -> String {
+        let role = match self.word(at) {
+            0 => "initiator".to_string(),
+            1 => "responder".to_string(),
+            other => format!("role {other}"),
+        };
+        format!("{role} {}/{}", self.word(at + 1), self.word(at + 2))
+    }
+
+    fn shown(&self) -> String {
+        match self.word(SHOWN) {
+            0 => self.odd(FIRST..FIRED_NAME),
+            1 => self.indication(FIRST) + &self.odd(SECOND..FIRED_NAME),
+            2 => self.indication(FIRST) + &self.indication(SECOND),
+            _ => self.odd(SHOWN..SHOWN + 1),
+        }
+    }
+
+    /// The indication whose twelve words start at `at`.
+    fn indication(&self, at: usize) -> String {
+        let kind = match self.word(at) {
+            1 => "invoke".to_string(),
+            2 => "confirm".to_string(),
+            3 => "result".to_string(),
+            4 => "abort".to_string(),
+            other => format!("kind {other}"),
+        };
+        let named = ["class", "up", "type", "reason"].iter().zip(at + 4..).filter(|(_, place)| self.word(*place) != 0);
+        let said: String = named.map(|(name, place)| format!(" {name} {}", self.word(place))).collect();
+        format!("; {kind} {}{said}{}{}", self.name(at + 1), self.data(at + 8), self.odd(at + 11..at + 12))
+    }
+
+    /// The data whose source, start and length are three words from `at` on.
+    fn data(&self, at: usize) -> String {
+        let (source, octets): (_, &[u8]) = match [self.word(at), self.word(at + 1), self.word(at + 2)] {
+            [0, 0, 0] => return " no data".to_string(),
+            [0, ..] => ("datagram".to_string(), self.octets),
+            [1, ..] => ("store".to_string(), &self.buffers.store),
+            [other, ..] => (format!("source {other}"), &[]),
+        };
+        let place = format!(" {source} {}+{}", self.word(at + 1), self.word(at + 2));
+        match part(octets, self.word(at + 1), self.word(at + 2)) {
+            None => place + " WHICH ISN'T THERE",
+            Some([]) => place,
+            Some(data) => format!("{place} {}", text(data)),
+        }
+    }
+
+    /// The words that no call may touch.
+    fn past_the_answer(&self) -> String {
+        let touched = (ANSWER..self.buffers.answer.len()).filter(|place| self.word(*place) != UNTOUCHED_WORD);
+        touched.map(|place| format!("; changed word {place}")).collect()
+    }
+}
+
+fn part(octets: &[u8], start: u64, length: u64) -> Option<&[u8]> {
+    let start = usize::try_from(start).ok()?;
+    octets.get(start..start.checked_add(usize::try_from(length).ok()?)?)
+}

@@ -1,0 +1,35 @@
+//! One call of the engine: what it is asked, and the library's function for it.
+
+use wtp::ffi::{self, Lent, Record};
+
+pub struct Call {
+    pub end: usize,
+    pub now: u64,
+    pub event: Event,
+    /// Data, exit information or PDU; None: the PDU that the other end sent last.
+    pub octets: Option<Vec<u8>>,
+}
+
+#[derive(Clone, Copy)]
+pub enum Event {
+    Request { peer: u64, class: u64, user_ack: u64 },
+    Answer(Record),
+    Result(Record),
+    Abort(Record, u8),
+    Receive { peer: u64 },
+    Timer,
+}
+
+/// What calls go to: event, time, octets and buffers in, the number out.
+pub type Engine = fn(Event, u64, &[u8], Lent) -> u64;
+
+pub fn library(event: Event, now: u64, octets: &[u8], lent: Lent) -> u64 {
+    match event {
+        Event::Request { peer, class, user_ack } => ffi::request(lent, now, peer, class, user_ack, octets),
+        Event::Answer(of) => ffi::answer(lent, now, of, octets),
+        Event::Result(of) => ffi::result(lent, now, of, octets),
+        Event::Abort(of, reason) => ffi::abort(lent, now, of, reason),
+        Event::Receive { peer } => ffi::receive(lent, now, peer, octets),
+        Event::Timer => ffi::timer(lent, now),
+    }
+}

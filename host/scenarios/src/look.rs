@@ -1,0 +1,39 @@
+//! A table in words: clock, GenTID, cached TIDs, live records.
+
+use crate::changes::{records, state_name};
+use crate::octets::text;
+use kit::layout::{AEC, CACHED, CLOCK, DEADLINE, EXIT, EXIT_LENGTH, FLAGS, GEN_TID, MESSAGE, PEER, PEERS, RCR, STATE, TID};
+
+const MARKS: [&str; 4] = [" user-ack", " HoldOn", " TIDok-sent", " hold-on-sent"];
+
+pub fn look(table: &[u8]) -> String {
+    let mut told = format!(": clock {}, next TID {}", CLOCK.get(table), GEN_TID.get(table));
+    for peer in 0..PEERS {
+        if let Some(last) = CACHED.moved(2 * peer).get(table).checked_sub(1) {
+            told += &format!(", last of {peer} is {last}");
+        }
+    }
+    let live = records(table).enumerate().filter(|(_, record)| STATE.get(record) != 0);
+    told + &live.map(|(place, record)| told_record(place, record)).collect::<String>()
+}
+
+fn told_record(place: usize, record: &[u8]) -> String {
+    let get = |field: kit::layout::Field| field.get(record);
+    let state = state_name(get(STATE));
+    let counters = format!("{}/{} RCR {} AEC {}", get(PEER), get(TID), get(RCR), get(AEC));
+    let rest = format!("due {} length {}{}{}", get(DEADLINE), get(MESSAGE), marks(get(FLAGS)), exit(record));
+    format!("; record {place} {state} {counters} {rest}")
+}
+
+fn marks(flags: u64) -> String {
+    MARKS.iter().enumerate().filter(|(bit, _)| flags >> bit & 1 == 1).map(|(_, mark)| *mark).collect()
+}
+
+/// The exit information, as far as the record has it.
+fn exit(record: &[u8]) -> String {
+    let said = &record[EXIT..];
+    match usize::try_from(EXIT_LENGTH.get(record)).map_or(said.len(), |length| length.min(said.len())) {
+        0 => String::new(),
+        length => format!(" exit {}", text(&said[..length])),
+    }
+}

@@ -1,0 +1,101 @@
+//! Engines with a planted error, each of which must be told; and lines that are no command.
+
+use crate::call::{Engine, Event};
+use crate::player::{play, play_on};
+use kit::layout::STATE;
+use wtp::ffi::{Lent, ANSWER};
+
+const START: &str = "# a table of two records\nfresh 0 2 7\n";
+
+/// What the line gives on this engine.
+fn given(engine: Engine, line: &str) -> String {
+    let mut told = String::new();
+    play_on(engine, &format!("{START}{line}\n"), &mut told).unwrap();
+    told.trim_end().rsplit_once(line).unwrap().1.to_string()
+}
+
+/// Accepts, with an answer of zeros.
+fn accept(lent: &mut Lent) {
+    lent.answer[..ANSWER].fill(0);
+}
+
+fn refuses_and_changes(_: Event, _: u64, _: &[u8], lent: Lent) -> u64 {
+    lent.store[1] = 1;
+    2
+}
+
+fn writes_past_the_pdu(_: Event, _: u64, _: &[u8], mut lent: Lent) -> u64 {
+    accept(&mut lent);
+    lent.answer[0] = 3;
+    lent.out[..4].copy_from_slice(&[0x18, 0x80, 7, 0]);
+    0
+}
+
+fn writes_odd_words(_: Event, _: u64, _: &[u8], mut lent: Lent) -> u64 {
+    accept(&mut lent);
+    lent.answer[2] = 9;
+    lent.answer[31] = 1;
+    lent.answer[ANSWER] = 0;
+    0
+}
+
+fn changes_two_records(_: Event, _: u64, _: &[u8], mut lent: Lent) -> u64 {
+    accept(&mut lent);
+    STATE.of_record(0).set(lent.table, 2);
+    STATE.of_record(1).set(lent.table, 12);
+    0
+}
+
+fn points_past_the_store(_: Event, _: u64, _: &[u8], mut lent: Lent) -> u64 {
+    accept(&mut lent);
+    lent.answer[1] = 1;
+    lent.answer[4..15].copy_from_slice(&[3, 0, 5, 7, 0, 0, 0, 0, 1, 1 << 40, 2]);
+    0
+}
+
+#[test]
+fn a_refused_call_that_changes_something_is_told() {
+    assert_eq!(given(refuses_and_changes, "tim 0 10"), ": refused 2; A REFUSED CALL CHANGED SOMETHING");
+}
+
+#[test]
+fn an_output_changed_past_the_pdu_is_told() {
+    assert_eq!(given(writes_past_the_pdu, "rcv 0 10 5 /18"), ": ok; sent 188007; OUTPUT CHANGED PAST THE PDU");
+}
+
+#[test]
+fn words_that_should_be_zero_or_untouched_are_told() {
+    assert_eq!(given(writes_odd_words, "tim 0 10"), ": ok; word 2 is 9; none due; word 31 is 1; changed word 32");
+}
+
+#[test]
+fn every_record_that_changed_is_told() {
+    assert_eq!(given(changes_two_records, "tim 0 10"), ": ok {0: Free -> IResultWait2, 1: Free -> state 12}; none due");
+}
+
+#[test]
+fn data_that_lie_nowhere_are_told() {
+    assert!(given(points_past_the_store, "rcv 0 10 5 /18").ends_with(" store 1099511627776+2 WHICH ISN'T THERE"));
+}
+
+#[test]
+fn a_line_that_is_no_command_is_named() {
+    for (line, wrong) in [
+        ("reg 0 10", "there is no command \"reg\""),
+        ("tim 2 10", "END can't be 2"),
+        ("tim 0", "TIME is missing"),
+        ("tim 0 10 5", "\"5\" is too much"),
+        ("tim 0 -1", "TIME can't be \"-1\""),
+        ("rcv 0 10 5 18", "/OCTETS can't be \"18\""),
+        ("abo 0 10 0 5 7 256", "REASON can't be \"256\""),
+        ("set 40=1", "there is no setting 40"),
+        ("set 1", "N=V can't be \"1\""),
+        ("lend 1 2", "OUT is missing"),
+        ("put 0 8464 0", "there is no octet 8464"),
+        ("look 1", "there is no table of 0 records"),
+    ] {
+        let mut told = String::new();
+        assert_eq!(play(&format!("{START}{line}"), &mut told), Err(format!("line 3: {wrong}")), "{line}");
+        assert_eq!(told, START.replace("7\n", "7: ok\n"), "what comes before it is told");
+    }
+}

@@ -1,0 +1,96 @@
+//! Plays a text of scenarios, line by line.
+
+use crate::answer::Answer;
+use crate::call::{library, Call, Engine};
+use crate::changes::changes;
+use crate::command::{command, Command};
+use crate::desk::Desk;
+use crate::look::look;
+use wtp::ffi;
+
+/// Tells each line and what it gives, up to the first that is no command: that one is the error.
+pub fn play(text: &str, told: &mut String) -> Result<(), String> {
+    play_on(library, text, told)
+}
+
+pub fn play_on(engine: Engine, text: &str, told: &mut String) -> Result<(), String> {
+    let mut player = Player { desk: Desk::new(), engine };
+    for (number, line) in (1..).zip(text.lines()) {
+        let given = command(line).and_then(|command| player.run(command));
+        let given = given.map_err(|wrong| format!("line {number}: {wrong}"))?;
+        *told += &format!("{line}{given}\n");
+    }
+    Ok(())
+}
+
+struct Player {
+    desk: Desk,
+    engine: Engine,
+}
+
+impl Player {
+    fn run(&mut self, command: Command) -> Result<String, String> {
+        match command {
+            Command::Nothing => {}
+            Command::Set(words) => self.desk.set(&words)?,
+            Command::Lend(sizes) => self.desk.lent = sizes,
+            Command::Bytes { records } => return Ok(format!(": {}", ffi::table_bytes(records))),
+            Command::Fresh { end, records, first_tid } => return Ok(self.fresh(end, records, first_tid)),
+            Command::Put { end, at, value } => return self.put(end, at, value),
+            Command::Look { end } => return self.look(end),
+            Command::Call(call) => return Ok(self.call(call)),
+        }
+        Ok(String::new())
+    }
+
+    fn fresh(&mut self, end: usize, records: u64, first_tid: u64) -> String {
+        self.desk.ends[end].records = records;
+        let sizes = self.desk.sizes(end);
+        let buffers = &mut self.desk.ends[end].buffers;
+        let before = buffers.clone();
+        let number = ffi::fresh(&mut buffers.table[..sizes.table], &self.desk.settings[..sizes.settings], first_tid);
+        if number == 0 {
+            ": ok".to_string()
+        } else {
+            refused(number, before != *buffers)
+        }
+    }
+
+    fn put(&mut self, end: usize, at: usize, value: u8) -> Result<String, String> {
+        let octet = self.desk.ends[end].buffers.table.get_mut(at).ok_or_else(|| format!("there is no octet {at}"))?;
+        let was = std::mem::replace(octet, value);
+        Ok(format!(": was {was}"))
+    }
+
+    fn look(&self, end: usize) -> Result<String, String> {
+        let end = &self.desk.ends[end];
+        let bytes = usize::try_from(ffi::table_bytes(end.records)).unwrap_or_default();
+        let table = end.buffers.table.get(..bytes).filter(|table| !table.is_empty());
+        table.map(look).ok_or_else(|| format!("there is no table of {} records", end.records))
+    }
+
+    /// Makes the call on what is lent, and keeps the PDU that it sends.
+    fn call(&mut self, call: Call) -> String {
+        let octets = call.octets.unwrap_or_else(|| self.desk.ends[1 - call.end].last.clone());
+        let sizes = self.desk.sizes(call.end);
+        let end = &mut self.desk.ends[call.end];
+        end.buffers.clean();
+        let before = end.buffers.clone();
+        let number = (self.engine)(call.event, call.now, &octets, end.buffers.lend(sizes));
+        if number != 0 {
+            return refused(number, before != end.buffers);
+        }
+        let answer = Answer { buffers: &end.buffers, octets: &octets };
+        let changed = changes(&before.table[..sizes.table], &end.buffers.table[..sizes.table]);
+        let told = format!(": ok{changed}{}", answer.told(call.event));
+        if let Some(pdu) = answer.pdu().filter(|pdu| !pdu.is_empty()) {
+            end.last = pdu.to_vec();
+        }
+        told
+    }
+}
+
+/// A refused call changes nothing.
+fn refused(number: u64, changed: bool) -> String {
+    format!(": refused {number}{}", if changed { "; A REFUSED CALL CHANGED SOMETHING" } else { "" })
+}
