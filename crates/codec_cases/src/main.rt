@@ -3,7 +3,6 @@
 //   w N=V .. /OCTETS    write the PDU of these words, whose parts lie in the octets
 //   s OCTETS            separate, and read each part
 //   j N .. /OCTETS      join PDUs of these lengths
-//   z                   lend slices that are too short
 // Each line is printed before what it gives; any other line is printed alone.
 mod parse;
 mod show;
@@ -62,67 +61,12 @@ fn join_case(line: &[u8], bytes: &[u8]) {
     }
 }
 
-fn write_sizes(fields: &[u64], out: &mut [u8], answer: &mut [u64]) {
-    let invoke = [14u8, 0, 5, 2];
-    show::outcome(wtp::wtp_write(fields, &invoke, out, answer));
-}
-
-fn join_sizes(out: &mut [u8], answer: &mut [u64]) {
-    let invoke = [14u8, 0, 5, 2];
-    let lengths = [4u64];
-    show::outcome(wtp::wtp_join(&invoke, &lengths, out, answer));
-}
-
-fn read_size_cases() {
-    let invoke = [14u8, 0, 5, 2];
-    let mut short = [0u64; 87];
-    let mut enough = [0u64; 88];
-    show::outcome(wtp::wtp_read(&invoke, &mut short));
-    show::outcome(wtp::wtp_read(&invoke, &mut enough));
-}
-
-fn separate_size_case() {
-    let invoke = [14u8, 0, 5, 2];
-    let mut short = [0u64; 2];
-    show::outcome(wtp::wtp_separate(&invoke, 0, &mut short));
-}
-
-// A PDU to be written, whatever else is wrong with it, is refused for its sizes first.
-fn write_size_cases() {
-    let fields = [0u64; 88];
-    let mut out = [0u8; 1500];
-    let mut answer = [0u64; 32];
-    let few = [0u64; 87];
-    let mut little = [0u8; 1499];
-    let mut short = [0u64; 31];
-    write_sizes(&few, &mut out, &mut answer);
-    write_sizes(&fields, &mut little, &mut answer);
-    write_sizes(&fields, &mut out, &mut short);
-}
-
-fn join_size_cases() {
-    let mut out = [0u8; 1500];
-    let mut answer = [0u64; 32];
-    let mut little = [0u8; 1499];
-    let mut short = [0u64; 31];
-    join_sizes(&mut little, &mut answer);
-    join_sizes(&mut out, &mut short);
-}
-
-fn size_cases() {
-    read_size_cases();
-    write_size_cases();
-    separate_size_case();
-    join_size_cases();
-}
-
 fn run_case(line: &[u8], kind: u8, bytes: &[u8]) {
     match kind {
         b'r' => read_case(bytes),
         b'w' => write_line(line, bytes),
         b's' => separate_case(bytes),
         b'j' => join_case(line, bytes),
-        b'z' => size_cases(),
         _ => {}
     }
 }

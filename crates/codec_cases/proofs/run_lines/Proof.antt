@@ -1,14 +1,9 @@
 -- `codec_cases::run_lines` meets its contract: each turn passes a line. Assumes nothing.
 use borrow.Author.Needs.{needs}
-use Prim.Native.Nat.{_+_, _-_, _≤_, _<_}
-use mathlib.Core.Path.{_≡_}
+use Prim.Native.Nat.{_-_}
 use lib.ListN.{length}
 use Rattle.codec_cases.proofs.run_lines.Statement.{statement}
 use Rattle.codec_cases.proofs.run_lines.Tie as tie
-use Rattle.codec_cases.proofs.run_lines.Reads as reads
-use Rattle.codec_cases.proofs.run_lines.Lts as lts
-use Rattle.codec_cases.proofs.run_line.Reads as run-line-reads
-use Rattle.lines.proofs.line_end.Reads as line-end-reads
 
 abbrev Inv-loop : tie.InvT-loop
 Inv-loop text at₀ at = Unit
@@ -16,59 +11,9 @@ Inv-loop text at₀ at = Unit
 abbrev μ-loop : tie.MeasureT-loop
 μ-loop text at₀ at = length text - at
 
--- src/main.rt:138:5
-loop-holds : tie.Need-loop-holds Inv-loop μ-loop
-loop-holds c = search needs
-
--- src/main.rt:139:13
-line-end-requires : tie.Need-line-end-requires Inv-loop μ-loop
-line-end-requires c κs = search needs
-
--- src/main.rt:140:18
-sub-run-line : tie.Need-sub-run-line Inv-loop μ-loop
-sub-run-line c = search needs
-
--- src/main.rt:140:18
-part-run-line-start : tie.Need-part-run-line-start Inv-loop μ-loop
-part-run-line-start c = search needs
-
--- src/main.rt:140:18
-part-run-line-end : tie.Need-part-run-line-end Inv-loop μ-loop
-part-run-line-end c = search needs
-
--- src/main.rt:140:9
-run-line-requires : tie.Need-run-line-requires Inv-loop μ-loop
-run-line-requires c κs = search needs
-
--- src/main.rt:141:14
-add-at : tie.Need-add-at Inv-loop μ-loop
-add-at c = search needs
-
--- src/main.rt:138:5
-loop-less : tie.Need-loop-less Inv-loop μ-loop
-loop-less c = search needs
-
--- src/main.rt:138:5
-loop-again : tie.Need-loop-again Inv-loop μ-loop
-loop-again c = search needs
-
--- src/main.rt:136:1
-returns : tie.Need-returns Inv-loop μ-loop
-returns c = search needs
-
 pub run-lines-spec : {M : Type 1} → statement M
 run-lines-spec =
-    tie.close
-    (tie.spec
-    Inv-loop
-    μ-loop
-    loop-holds
-    line-end-requires
-    sub-run-line
-    part-run-line-start
-    part-run-line-end
-    run-line-requires
-    add-at
-    loop-less
-    loop-again
-    returns)
+    tie.close (tie.spec
+    Inv-loop μ-loop (λ c. search needs) (λ c κs. search needs) (λ c. search needs) (λ c. search needs)
+    (λ c. search needs) (λ c κs. search needs) (λ c. search needs) (λ c. search needs) (λ c. search needs)
+    (λ c. search needs))

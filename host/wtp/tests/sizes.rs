@@ -1,0 +1,45 @@
+//! Slices of the codec's calls that are one element too short: number 1, whatever else is wrong, and nothing changes.
+
+use wtp::ffi::{self, ANSWER, FIELDS, OUTPUT, PART};
+
+const WRONG_SIZE: u64 = 1;
+const INVOKE: [u8; 4] = [0x0E, 0, 5, 2];
+
+#[test]
+fn too_few_words_for_a_pdu_that_is_read() {
+    let mut words = [7; FIELDS];
+    assert_eq!(ffi::read(&INVOKE, &mut words[1..]), WRONG_SIZE);
+    assert_eq!(words, [7; FIELDS]);
+    assert_eq!(ffi::read(&INVOKE, &mut words), 0);
+}
+
+#[test]
+fn too_few_words_for_a_part() {
+    let mut part = [7; PART];
+    assert_eq!(ffi::separate(&INVOKE, 0, &mut part[1..]), WRONG_SIZE);
+    assert_eq!(part, [7; PART]);
+    assert_eq!(ffi::separate(&INVOKE, 0, &mut part), 0);
+}
+
+/// Whether a call with this output and this answer is refused for its sizes and leaves both.
+fn refused(call: impl FnOnce(&mut [u8], &mut [u64]) -> u64, output: usize, answer: usize) -> bool {
+    let (mut out, mut words) = (vec![7; output], vec![7; answer]);
+    call(&mut out, &mut words) == WRONG_SIZE && out == vec![7; output] && words == vec![7; answer]
+}
+
+#[test]
+fn too_few_fields_too_short_an_output_or_an_answer_for_a_pdu_that_is_written() {
+    let write = |fields| move |out: &mut [u8], answer: &mut [u64]| ffi::write(&vec![0; fields], &INVOKE, out, answer);
+    assert!(refused(write(FIELDS - 1), OUTPUT, ANSWER));
+    assert!(refused(write(FIELDS), OUTPUT - 1, ANSWER));
+    assert!(refused(write(FIELDS), OUTPUT, ANSWER - 1));
+    assert!(!refused(write(FIELDS), OUTPUT, ANSWER));
+}
+
+#[test]
+fn too_short_an_output_or_an_answer_for_pdus_that_are_joined() {
+    let join = |out: &mut [u8], answer: &mut [u64]| ffi::join(&INVOKE, &[4], out, answer);
+    assert!(refused(join, OUTPUT - 1, ANSWER));
+    assert!(refused(join, OUTPUT, ANSWER - 1));
+    assert!(!refused(join, OUTPUT, ANSWER));
+}
