@@ -7,5 +7,3 @@ pub mod Passed
 pub mod Accepted
 pub mod HeadFits
 pub mod Again
-pub mod InOrder
-pub mod Verdicts

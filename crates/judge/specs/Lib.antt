@@ -1,4 +1,3 @@
 pub mod Length
 pub mod Widths
 pub mod Judge
-pub mod Order

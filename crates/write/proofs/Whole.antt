@@ -19,8 +19,8 @@ use Rattle.words.specs.Said.{pduSaid, NarrowKind}
 use Rattle.words.proofs.Stored.{length-words}
 use Rattle.writer.specs.Write.{octetsOf}
 use Rattle.judge.specs.Judge.{AsRead}
-use Rattle.judge.specs.Order.{FirstOf}
-use Rattle.judge.proofs.InOrder.{in-order}
+use Rattle.judge_order.specs.Order.{FirstOf}
+use Rattle.judge_order.proofs.InOrder.{in-order}
 use Rattle.judge.proofs.Again.{again}
 use Rattle.write.specs.Writing.{planOf, answerOf, plan, done, written, WrongSizes, allReasons}
 use Rattle.write.specs.declared.Written.the-variants as W

@@ -12,7 +12,7 @@ use Rattle.pdu.specs.declared.Kind.the-variants.{Invoke, Result, Ack, Abort, Se
 use Rattle.pdu.specs.declared.Pdu.{Pdu}
 use Rattle.writer.specs.Write.{octetsOf}
 use Rattle.judge.specs.Judge.{judgedOf}
-use Rattle.judge.specs.Order.{Reason, reason, reasons}
+use Rattle.judge_order.specs.Order.{Reason, reason, reasons}
 use Rattle.write.specs.declared.Written.{Written}
 use Rattle.write.specs.declared.Written.the-variants as W
 

@@ -9,14 +9,14 @@ use lib.Dec.{ltb, eqb}
 use borrow.Author.Tests.{ltb-true, ltb-false, eqb-true, eqb-false}
 use Rattle.words.specs.Said.{word, itemsSaid, pduSaid}
 use Rattle.writer.specs.Write.{Fit, faultOf}
 use Rattle.judge.specs.Length.{lengthSaid}
 use Rattle.judge.specs.Widths.{fits}
 use Rattle.judge.specs.Judge.{itemsInside, faultIn, ruled, judgedOf}
-use Rattle.judge.specs.Order.{WrongType, OverLong, TooWide, ItemPast}
+use Rattle.judge_order.specs.Order.{WrongType, OverLong, TooWide, ItemPast}
 use Rattle.judge.proofs.Bounds.{fits-tell}
 use Rattle.judge.proofs.Types.{typed}
 use Rattle.judge.proofs.Accepted.{said-fits}
-use Rattle.judge.proofs.InOrder.{wide-told, past-told}
+use Rattle.judge_order.proofs.InOrder.{wide-told, past-told}
 
 -- THE WRITER'S VERDICT IS THAT OF A PDU THAT FITS
 pub verdict-of-fit : (w s : List ℕ) → (WrongType w → ⊥) → (OverLong w → ⊥) → (TooWide w (length s) → ⊥) → (ItemPast w (length s) → ⊥)

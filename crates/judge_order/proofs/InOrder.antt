@@ -21,13 +21,13 @@ use Rattle.pdu.specs.declared.Pdu.{Pdu}
 use Rattle.words.specs.Said.{word, kindSaid, itemSaid, itemsSaid, pduSaid}
 use Rattle.words.proofs.ByType.{said-invoke, said-result, said-ack, said-abort, said-seg-invoke, said-seg-result, said-nack}
 use Rattle.writer.specs.Write.{orElse, kindFault, restFault}
 use Rattle.judge.specs.Length.{placed, lengthSaid}
 use Rattle.judge.specs.Widths.{widths, widest, narrowAt, noneTooWide, inside, fits}
 use Rattle.judge.specs.Judge.{itemInside, itemsInside, faultIn, ruled, judgedOf}
-use Rattle.judge.specs.Order.{WrongType, OverLong, TooWide, ClassThree, AbortTypeOver, ItemPast, Bare, Reason, reason, restReasons, itemReasons, kindReasons, widthReasons, reasons, FirstOf}
+use Rattle.judge_order.specs.Order.{WrongType, OverLong, TooWide, ClassThree, AbortTypeOver, ItemPast, Bare, Reason, reason, restReasons, itemReasons, kindReasons, widthReasons, reasons, FirstOf}
 use Rattle.judge.proofs.Bounds.{Fitting, fits-tell, at-type}
 use Rattle.judge.proofs.Types.{Typed, typed}
 use Rattle.judge.proofs.SaidItems.{said-at}
 
 -- a test that tells a condition: where it is true the condition holds, where it is false it doesn't
 abbrev Tells : Bool → Type 0 → Type 0
