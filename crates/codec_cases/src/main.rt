@@ -10,7 +10,7 @@ mod show;
 fn write_case(fields: &[u64], bytes: &[u8]) {
     let mut out = [238u8; 1500];
     let mut answer = [0u64; 32];
-    let n = wtp::wtp_write(fields, bytes, &mut out, &mut answer);
+    let n = codec_calls::write(fields, bytes, &mut out, &mut answer);
     show::outcome(n);
     if n == 0 {
         show::first(&out, answer[0]);
@@ -19,7 +19,7 @@ fn write_case(fields: &[u64], bytes: &[u8]) {
 
 fn read_case(bytes: &[u8]) {
     let mut fields = [0u64; 88];
-    let n = wtp::wtp_read(bytes, &mut fields);
+    let n = codec_calls::read(bytes, &mut fields);
     show::outcome(n);
     if n == 0 {
         show::words(&fields);
@@ -42,7 +42,7 @@ fn show_parts(datagram: &[u8], count: u64) {
 
 fn separate_case(datagram: &[u8]) {
     let mut part = [0u64; 3];
-    let n = wtp::wtp_separate(datagram, 0, &mut part);
+    let n = codec_calls::separate(datagram, 0, &mut part);
     show::outcome(n);
     if n == 0 {
         show_parts(datagram, part[2]);
@@ -54,7 +54,7 @@ fn join_case(line: &[u8], bytes: &[u8]) {
     let count = lines::gather(line, 2, &mut lengths);
     let mut out = [238u8; 1500];
     let mut answer = [0u64; 32];
-    let n = wtp::wtp_join(bytes, &lengths[..count], &mut out, &mut answer);
+    let n = codec_calls::join(bytes, &lengths[..count], &mut out, &mut answer);
     show::outcome(n);
     if n == 0 {
         show::first(&out, answer[0]);

@@ -40,7 +40,7 @@ pub fn first(out: &[u8], n: u64) {
 pub fn part(datagram: &[u8], k: u64) {
     let mut part = [0u64; 3];
     let mut fields = [0u64; 88];
-    wtp::wtp_separate(datagram, k, &mut part);
+    codec_calls::separate(datagram, k, &mut part);
     let start = part[0];
     let len = part[1];
     if start <= datagram.len() as u64 {
@@ -49,7 +49,7 @@ pub fn part(datagram: &[u8], k: u64) {
             let end = from + len as usize;
             lines::print(b" ");
             lines::print_octets(&datagram[from..end]);
-            outcome(wtp::wtp_read(&datagram[from..end], &mut fields));
+            outcome(codec_calls::read(&datagram[from..end], &mut fields));
         }
     }
 }

@@ -27,7 +27,7 @@ use Rattle.judge.proofs.Again.{again}
 use Rattle.write.specs.Writing.{planOf, answerOf, writtenAnswer, outputAfter}
 use Rattle.writes_back.specs.WritesBack.{cleared, Octets, Readable}
 use Rattle.writes_back.proofs.Back.{writes-back, read-fits}
-use Rattle.wtp.specs.Calls.{writtenNumber, writeNumber, writeOutput}
+use Rattle.codec_calls.specs.Calls.{writtenNumber, writeNumber, writeOutput}
 use Rattle.round_trip.specs.RoundTrip.{RoundTrip}
 use Rattle.round_trip.proofs.Narrow.{tame-read}
 

@@ -6,7 +6,7 @@ use Rattle.seq.specs.Seq.{put}
 use Rattle.reader.specs.Read.{pduOf}
 use Rattle.words.specs.Words.{wordsOf}
 use Rattle.writes_back.specs.WritesBack.{cleared}
-use Rattle.wtp.specs.Calls.{writeNumber, writeOutput}
+use Rattle.codec_calls.specs.Calls.{writeNumber, writeOutput}
 
 -- of octets b that read as a PDU: its words, whatever follows them, are accepted, and the cleared octets stand at the start of the output
 pub record RoundTrip (b rest out answer : List ℕ) : Type 0 where

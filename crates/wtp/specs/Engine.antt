@@ -8,7 +8,7 @@ use Rattle.numbers.specs.declared.Refusal.the-variants.{WrongSize}
 use Rattle.carry.specs.Carry.{Lent, Done}
 use Rattle.calls.specs.Calls.{asRequest, asAnswer, asResult, asAbort, requested, primitived, received, fired}
 use Rattle.answers.specs.Answers.{answerNumber, answerAfter}
-use Rattle.wtp.specs.Calls.{orSize}
+use Rattle.codec_calls.specs.Calls.{orSize}
 
 -- all that a caller sees of a call
 pub record Called : Type 0 where

@@ -1,15 +1,15 @@
--- `wtp::wtp_separate` meets its contract: each way through it is a case of the definition. Assumes nothing.
+-- `codec_calls::separate` meets its contract: each way through it is a case of the definition. Assumes nothing.
 use mathlib.Core.Path.{refl, sym, _∙_}
 use borrow.Author.Tests.{lt-ltb, le-ltb}
 use denote.Ref.{now}
 use lib.ListN.{length}
 use Rattle.datagram.specs.Separate.{partsOf, answerAt}
-use Rattle.wtp.specs.Calls.{separateNumber, partAfter}
+use Rattle.codec_calls.specs.Calls.{separateNumber, partAfter}
 use borrow.Author.Needs.{needs}
-use Rattle.wtp.proofs.wtp_separate.Statement.{statement}
-use Rattle.wtp.proofs.wtp_separate.Tie as tie
-use Rattle.wtp.proofs.wtp_separate.Reads as reads
-use Rattle.wtp.proofs.wtp_separate.Lts as lts
+use Rattle.codec_calls.proofs.separate.Statement.{statement}
+use Rattle.codec_calls.proofs.separate.Tie as tie
+use Rattle.codec_calls.proofs.separate.Reads as reads
+use Rattle.codec_calls.proofs.separate.Lts as lts
 use Rattle.datagram.proofs.separate.Reads as separate-reads
 use Rattle.numbers.proofs.number.Reads as number-reads
 use Rattle.seq.proofs.store_words.Reads as store-words-reads
@@ -69,8 +69,8 @@ returns-3 c =
     let a = c .before .before .before .before .before .before .before .before .args in
     rw (le-ltb (length (now (a .part))) 3 (b .before .if1 .left), ← b .separate .ensures, c .before .before .r .given .1) (c .number2 .ensures, refl)
 
-pub wtp-separate-spec : {M : Type 1} → statement M
-wtp-separate-spec =
+pub separate-spec : {M : Type 1} → statement M
+separate-spec =
     tie.close
     (tie.spec
     number-requires

@@ -1,17 +1,17 @@
--- `wtp::wtp_read` meets its contract: each way through it is a case of the definition. Assumes nothing.
+-- `codec_calls::read` meets its contract: each way through it is a case of the definition. Assumes nothing.
 use mathlib.Core.Path.{sym, _∙_}
 use denote.Ref.{now}
-use Rattle.wtp.proofs.Outcomes.{read-short, read-sound, read-unsound}
+use Rattle.codec_calls.proofs.Outcomes.{read-short, read-sound, read-unsound}
 use borrow.Author.Needs.{needs}
-use Rattle.wtp.proofs.wtp_read.Statement.{statement}
-use Rattle.wtp.proofs.wtp_read.Tie as tie
-use Rattle.wtp.proofs.wtp_read.Reads as reads
-use Rattle.wtp.proofs.wtp_read.Lts as lts
+use Rattle.codec_calls.proofs.read.Statement.{statement}
+use Rattle.codec_calls.proofs.read.Tie as tie
+use Rattle.codec_calls.proofs.read.Reads as reads
+use Rattle.codec_calls.proofs.read.Lts as lts
 use Rattle.numbers.proofs.number.Reads as number-reads
 use Rattle.pdu.proofs.sound.Reads as sound-reads
 use Rattle.reader.proofs.read.Reads as read-reads
 use Rattle.words.proofs.store_fields.Reads as store-fields-reads
-use Rattle.wtp.proofs.number_of.Reads as number-of-reads
+use Rattle.codec_calls.proofs.number_of.Reads as number-of-reads
 
 -- src/lib.rt:35:9
 number-requires : tie.Need-number-requires
@@ -61,8 +61,8 @@ returns-3 c =
     let o = read-unsound (now (a .octets)) (now (a .fields)) (c .before .before .before .before .if1 .left) (r .result) (r .ensures) (sym (c .before .before .sound .ensures) ∙ c .before .if2 .left) in
     (c .number-of .ensures ∙ o .0, o .1)
 
-pub wtp-read-spec : {M : Type 1} → statement M
-wtp-read-spec =
+pub read-spec : {M : Type 1} → statement M
+read-spec =
     tie.close
     (tie.spec
     number-requires

@@ -1,12 +1,12 @@
--- `wtp::wtp_fresh` meets its contract: each way through it is a case of the definition. Assumes nothing.
+-- `codec_calls::make_fresh` meets its contract: each way through it is a case of the definition. Assumes nothing.
 use mathlib.Core.Path.{refl, sym, _∙_}
 use denote.Ref.{now}
-use Rattle.wtp.proofs.Outcomes.{freshly}
+use Rattle.codec_calls.proofs.Outcomes.{freshly}
 use borrow.Author.Needs.{needs}
-use Rattle.wtp.proofs.wtp_fresh.Statement.{statement}
-use Rattle.wtp.proofs.wtp_fresh.Tie as tie
-use Rattle.wtp.proofs.wtp_fresh.Reads as reads
-use Rattle.wtp.proofs.wtp_fresh.Lts as lts
+use Rattle.codec_calls.proofs.make_fresh.Statement.{statement}
+use Rattle.codec_calls.proofs.make_fresh.Tie as tie
+use Rattle.codec_calls.proofs.make_fresh.Reads as reads
+use Rattle.codec_calls.proofs.make_fresh.Lts as lts
 use Rattle.fresh.proofs.make_fresh.Reads as make-fresh-reads
 use Rattle.numbers.proofs.number.Reads as number-reads
 
@@ -50,8 +50,8 @@ returns-2 c =
     let f = freshly (now (a .table)) (now (a .settings)) (a .first-tid) _ _ (b .make-fresh .ensures) in
     rw (f .1, ← f .0, c .before .before .r .given .1) (c .number .ensures, refl)
 
-pub wtp-fresh-spec : {M : Type 1} → statement M
-wtp-fresh-spec =
+pub make-fresh-spec : {M : Type 1} → statement M
+make-fresh-spec =
     tie.close
     (tie.spec
     make-fresh-requires

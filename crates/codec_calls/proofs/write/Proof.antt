@@ -1,20 +1,20 @@
--- `wtp::wtp_write` meets its contract: each way through it is a case of the definition. Assumes nothing.
+-- `codec_calls::write` meets its contract: each way through it is a case of the definition. Assumes nothing.
 use mathlib.Core.Path.{refl, sym, ap, _∙_}
 use borrow.Author.Tests.{lt-ltb, le-ltb}
 use denote.Ref.{now}
 use lib.ListN.{length}
 use Rattle.write.specs.Writing.{Done, writtenAnswer, outputAfter, written}
-use Rattle.wtp.proofs.Outcomes.{writing}
-use Rattle.wtp.specs.Calls.{writeNumber, writeOutput, writeAnswer}
+use Rattle.codec_calls.proofs.Outcomes.{writing}
+use Rattle.codec_calls.specs.Calls.{writeNumber, writeOutput, writeAnswer}
 use borrow.Author.Needs.{needs}
-use Rattle.wtp.proofs.wtp_write.Statement.{statement}
-use Rattle.wtp.proofs.wtp_write.Tie as tie
-use Rattle.wtp.proofs.wtp_write.Reads as reads
-use Rattle.wtp.proofs.wtp_write.Lts as lts
+use Rattle.codec_calls.proofs.write.Statement.{statement}
+use Rattle.codec_calls.proofs.write.Tie as tie
+use Rattle.codec_calls.proofs.write.Reads as reads
+use Rattle.codec_calls.proofs.write.Lts as lts
 use Rattle.numbers.proofs.code.Reads as code-reads
 use Rattle.numbers.proofs.number.Reads as number-reads
 use Rattle.write.proofs.write.Reads as write-reads
-use Rattle.wtp.proofs.store_length.Reads as store-length-reads
+use Rattle.codec_calls.proofs.store_length.Reads as store-length-reads
 
 -- src/lib.rt:63:9
 number-requires : tie.Need-number-requires
@@ -98,8 +98,8 @@ returns-4 c =
     let w = writing (now (a .fields)) (now (a .bytes)) (now (a .out)) _ _ (b .write .ensures) in
     rw (le-ltb (length (now (a .answer))) 32 (b .before .before .if1 .left), w .1, ← w .0, c .before .before .r .given .1) (c .number2 .ensures, refl, refl)
 
-pub wtp-write-spec : {M : Type 1} → statement M
-wtp-write-spec =
+pub write-spec : {M : Type 1} → statement M
+write-spec =
     tie.close
     (tie.spec
     number-requires

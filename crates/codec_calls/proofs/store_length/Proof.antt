@@ -1,10 +1,10 @@
--- `wtp::store_length` meets its contract. Assumes nothing.
-use Rattle.wtp.specs.Calls.{lengthAnswer}
+-- `codec_calls::store_length` meets its contract. Assumes nothing.
+use Rattle.codec_calls.specs.Calls.{lengthAnswer}
 use borrow.Author.Needs.{needs}
-use Rattle.wtp.proofs.store_length.Statement.{statement}
-use Rattle.wtp.proofs.store_length.Tie as tie
-use Rattle.wtp.proofs.store_length.Reads as reads
-use Rattle.wtp.proofs.store_length.Lts as lts
+use Rattle.codec_calls.proofs.store_length.Statement.{statement}
+use Rattle.codec_calls.proofs.store_length.Tie as tie
+use Rattle.codec_calls.proofs.store_length.Reads as reads
+use Rattle.codec_calls.proofs.store_length.Lts as lts
 use Rattle.seq.proofs.store_words.Reads as store-words-reads
 
 -- src/lib.rt:52:5

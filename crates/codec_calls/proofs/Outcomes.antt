@@ -19,7 +19,7 @@ use Rattle.write.specs.Writing.{Done, done, written, writtenAnswer, outputAfter
 use Rattle.write.specs.declared.Written.{Written}
 use Rattle.fresh.specs.Fresh.{Left, left, leftBy, freshAnswer, tableAfter}
 use Rattle.fresh.specs.declared.Fresh.{Fresh}
-use Rattle.wtp.specs.Calls.{kindNumber, readNumber, fieldsAfter}
+use Rattle.codec_calls.specs.Calls.{kindNumber, readNumber, fieldsAfter}
 
 -- a PDU of a sound kind is accepted
 sound-accepted : (k : Kind) → soundOf k ≡ true → 0 ≡ kindNumber k

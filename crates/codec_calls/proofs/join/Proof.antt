@@ -1,17 +1,17 @@
--- `wtp::wtp_join` meets its contract: each way through it is a case of the definition. Assumes nothing.
+-- `codec_calls::join` meets its contract: each way through it is a case of the definition. Assumes nothing.
 use mathlib.Core.Path.{refl, sym, _∙_}
 use borrow.Author.Tests.{lt-ltb, le-ltb}
 use denote.Ref.{now}
 use lib.ListN.{length}
-use Rattle.wtp.specs.Calls.{joinNumber, joinOutput, joinAnswer}
+use Rattle.codec_calls.specs.Calls.{joinNumber, joinOutput, joinAnswer}
 use borrow.Author.Needs.{needs}
-use Rattle.wtp.proofs.wtp_join.Statement.{statement}
-use Rattle.wtp.proofs.wtp_join.Tie as tie
-use Rattle.wtp.proofs.wtp_join.Reads as reads
-use Rattle.wtp.proofs.wtp_join.Lts as lts
+use Rattle.codec_calls.proofs.join.Statement.{statement}
+use Rattle.codec_calls.proofs.join.Tie as tie
+use Rattle.codec_calls.proofs.join.Reads as reads
+use Rattle.codec_calls.proofs.join.Lts as lts
 use Rattle.joiner.proofs.join.Reads as join-reads
 use Rattle.numbers.proofs.number.Reads as number-reads
-use Rattle.wtp.proofs.store_length.Reads as store-length-reads
+use Rattle.codec_calls.proofs.store_length.Reads as store-length-reads
 
 -- src/lib.rt:80:9
 number-requires : tie.Need-number-requires
@@ -72,8 +72,8 @@ returns-3 c =
     let a = c .before .before .before .before .before .before .before .before .before .before .before .before .before .args in
     rw (le-ltb (length (now (a .answer))) 32 (b .before .before .if1 .left), b .join .ensures .1, ← b .join .ensures .0, c .before .before .r .given .1) (c .number2 .ensures, refl, refl)
 
-pub wtp-join-spec : {M : Type 1} → statement M
-wtp-join-spec =
+pub join-spec : {M : Type 1} → statement M
+join-spec =
     tie.close
     (tie.spec
     number-requires
