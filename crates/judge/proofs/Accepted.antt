@@ -15,7 +15,7 @@ use Rattle.items.specs.Items.{noItem}
 use Rattle.items.specs.declared.Item.{Item}
 use Rattle.pdu.specs.Pdu.{soundOf}
 use Rattle.pdu.specs.declared.Pdu.{Pdu}
-use Rattle.words.specs.Said.{word, kindSaid, itemSaid, itemsSaid, pduSaid}
+use Rattle.said.specs.Said.{word, kindSaid, itemSaid, itemsSaid, pduSaid}
 use Rattle.writer.specs.Write.{headerOf, itemsOctets, octetsOf, FitItems, Fit, faultOf}
 use Rattle.writer.proofs.Headers.{header-length}
 use Rattle.writer.proofs.WholeOctets.{octets-length}

@@ -13,8 +13,8 @@ use Rattle.items.specs.Items.{noItem}
 use Rattle.items.specs.declared.Item.{Item}
 use Rattle.pdu.specs.declared.Pdu.{Pdu}
 use Rattle.words.specs.Words.{itemWords, itemsWords, headWords, wordsOf}
-use Rattle.words.specs.Said.{word, pduSaid, Narrow}
-use Rattle.words.proofs.Stored.{stored, head-first, word-of-item, said-stored}
+use Rattle.said.specs.Said.{word, pduSaid, Narrow}
+use Rattle.said.proofs.Stored.{stored, head-first, word-of-item, said-stored}
 use Rattle.writer.specs.Write.{longest, octetsOf, FitItem, Fit}
 use Rattle.judge.specs.Length.{placed, lengthSaid}
 use Rattle.judge.specs.Widths.{any, widths, longestSaid, widestItem, widest, inside}

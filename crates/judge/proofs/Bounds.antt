@@ -8,7 +8,7 @@ use lib.ListN.{getD}
 use borrow.Author.Tests.{leb-true, le-leb, lt-ltb, le-ltb}
 use Rattle.seq.proofs.Laws.{both, both-fst, both-snd, every-at, every-all}
 use Rattle.seq.specs.Seq.{pick}
-use Rattle.words.specs.Said.{word}
+use Rattle.said.specs.Said.{word}
 use Rattle.judge.specs.Widths.{widths, widestItem, widest, narrowAt, noneTooWide, inside, fits}
 
 pub record Fitting (w : List ℕ) (n : ℕ) : Type 0 where

@@ -11,8 +11,8 @@ use Rattle.pdu.specs.Pdu.{bareOf}
 use Rattle.pdu.specs.declared.Kind.{Kind}
 use Rattle.pdu.specs.declared.Kind.the-variants.{Invoke, Result, Ack, Abort, SegInvoke, SegResult, Nack, Wrong, Refused}
 use Rattle.words.specs.Words.{frontWords, invokeWords, otherWords, restWords}
-use Rattle.words.specs.Said.{word, NarrowKind}
-use Rattle.words.proofs.Stored.{headOf}
+use Rattle.said.specs.Said.{word, NarrowKind}
+use Rattle.said.proofs.Stored.{headOf}
 use Rattle.writer.specs.Write.{FitKind}
 use Rattle.judge.specs.Widths.{any, widths}
 use Rattle.judge.proofs.Types.{Typed}

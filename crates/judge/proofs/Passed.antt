@@ -16,7 +16,7 @@ use Rattle.numbers.specs.declared.Verdict.the-variants.{Sound, Bad}
 use Rattle.pdu.specs.Pdu.{soundOf, bareOf, blankPdu}
 use Rattle.pdu.specs.declared.Kind.the-variants.{Wrong, Refused}
 use Rattle.pdu.specs.declared.Pdu.{Pdu}
-use Rattle.words.specs.Said.{word, pduSaid}
+use Rattle.said.specs.Said.{word, pduSaid}
 use Rattle.writer.specs.Write.{orElse, kindFault, restFault, faultOf}
 use Rattle.judge.specs.Length.{lengthSaid}
 use Rattle.judge.specs.Widths.{fits}

@@ -10,7 +10,7 @@ use borrow.Author.Tests.{lt-ltb}
 use Rattle.seq.specs.Seq.{pick}
 use Rattle.seq.proofs.Laws.{lt-or-le, length-tab, getD-tab}
 use Rattle.items.specs.Items.{noItem}
-use Rattle.words.specs.Said.{word, itemSaid, itemsSaid}
+use Rattle.said.specs.Said.{word, itemSaid, itemsSaid}
 use Rattle.writer.specs.Write.{longest, FitItem}
 use Rattle.judge.specs.Length.{formLength, itemLength}
 use Rattle.judge.specs.Widths.{any, longestSaid, widestItem}

@@ -10,7 +10,7 @@ use lib.Dec.{leb, ltb}
 use borrow.Author.Tests.{ltb-true, ltb-false, leb-true, leb-false, lt-ltb, le-ltb, le-leb, lt-leb}
 use Rattle.seq.specs.Seq.{total}
 use Rattle.seq.proofs.Laws.{told, total-more}
-use Rattle.words.specs.Said.{word}
+use Rattle.said.specs.Said.{word}
 use Rattle.judge.specs.Length.{placed, headerSaid, formLength, itemLength, lengthSaid}
 use Rattle.judge.specs.Widths.{any, longestSaid, widestItem, inside}
 

@@ -5,8 +5,8 @@ use mathlib.Core.Path.{_≡_, refl, ap, _∙_}
 use mathlib.Core.List.{List, []}
 use lib.ListN.{length, getD}
 use Rattle.pdu.specs.declared.Kind.{Kind}
-use Rattle.words.specs.Said.{word, set?, kindSaid}
-use Rattle.words.proofs.ByType.{said-invoke, said-result, said-ack, said-abort, said-seg-invoke, said-seg-result, said-nack}
+use Rattle.said.specs.Said.{word, set?, kindSaid}
+use Rattle.said.proofs.ByType.{said-invoke, said-result, said-ack, said-abort, said-seg-invoke, said-seg-result, said-nack}
 use Rattle.writer.specs.Write.{extraOf, FitKind}
 use Rattle.writer.proofs.Nacks.{nack-length}
 use Rattle.judge.specs.Length.{headerSaid}

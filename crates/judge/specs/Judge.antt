@@ -15,7 +15,7 @@ use Rattle.items.specs.declared.Item.{Item}
 use Rattle.pdu.specs.Pdu.{bareOf, blankPdu}
 use Rattle.pdu.specs.declared.Kind.the-variants.{Wrong, Refused}
 use Rattle.pdu.specs.declared.Pdu.{Pdu}
-use Rattle.words.specs.Said.{word, pduSaid, NarrowKind}
+use Rattle.said.specs.Said.{word, pduSaid, NarrowKind}
 use Rattle.writer.specs.Write.{octetsOf, Fit, orElse, kindFault, restFault, faultOf}
 use Rattle.judge.specs.Length.{placed, lengthSaid}
 use Rattle.judge.specs.Widths.{any, inside, fits}

@@ -3,7 +3,7 @@ use Prim.Native.Nat.{ℕ, _+_, _*_, min}
 use mathlib.Core.List.{List}
 use lib.Dec.{eqb}
 use Rattle.seq.specs.Seq.{pick, total}
-use Rattle.words.specs.Said.{word}
+use Rattle.said.specs.Said.{word}
 
 -- 01: "At most 16 items": how many there are places for
 abbrev pub placed : ℕ → ℕ

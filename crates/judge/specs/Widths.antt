@@ -5,7 +5,7 @@ use mathlib.Core.Bool.{Bool, false}
 use lib.ListN.{getD}
 use lib.Dec.{ltb, leb, eqb}
 use Rattle.seq.specs.Seq.{pick, every}
-use Rattle.words.specs.Said.{word}
+use Rattle.said.specs.Said.{word}
 
 -- the widest value of a word: any is right
 abbrev pub any : ℕ

@@ -3,7 +3,7 @@ ghost use mathlib.Core.Path.{_≡_};
 ghost use Prim.Native.Nat.{_+_, _≤_, _<_, min};
 ghost use lib.ListN.{length};
 ghost use lib.Dec.{ltb};
-ghost use Rattle.words.specs.Said.{word};
+ghost use Rattle.said.specs.Said.{word};
 ghost use Rattle.writer.specs.Write.{kindFault, restFault};
 ghost use Rattle.judge.specs.Length.{placed, headerSaid, formLength, lengthSaid};
 ghost use Rattle.judge.specs.Widths.{longestSaid, widestItem, noneTooWide, inside, fits};
@@ -261,7 +261,7 @@ pub fn judged(words: &[u64], bytes: usize) -> Pdu
         return pdu::blank(Kind::Refused(Refusal::WrongLength));
     }
     if fit(words, bytes as u64) {
-        let p = words::said(words);
+        let p = said::said(words);
         let fault = fault_in(bytes as u64, p);
         match fault {
             Verdict::Bad(d) => pdu::blank(Kind::Wrong(d)),

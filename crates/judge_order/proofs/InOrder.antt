@@ -18,8 +18,8 @@ use Rattle.pdu.specs.Pdu.{bareOf, blankPdu}
 use Rattle.pdu.specs.declared.Kind.{Kind}
 use Rattle.pdu.specs.declared.Kind.the-variants.{Wrong, Refused}
 use Rattle.pdu.specs.declared.Pdu.{Pdu}
-use Rattle.words.specs.Said.{word, kindSaid, itemSaid, itemsSaid, pduSaid}
-use Rattle.words.proofs.ByType.{said-invoke, said-result, said-ack, said-abort, said-seg-invoke, said-seg-result, said-nack}
+use Rattle.said.specs.Said.{word, kindSaid, itemSaid, itemsSaid, pduSaid}
+use Rattle.said.proofs.ByType.{said-invoke, said-result, said-ack, said-abort, said-seg-invoke, said-seg-result, said-nack}
 use Rattle.writer.specs.Write.{orElse, kindFault, restFault}
 use Rattle.judge.specs.Length.{placed, lengthSaid}
 use Rattle.judge.specs.Widths.{widths, widest, narrowAt, noneTooWide, inside, fits}

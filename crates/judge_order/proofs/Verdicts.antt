@@ -7,7 +7,7 @@ use mathlib.Core.Logic.{inl, inr}
 use lib.ListN.{length}
 use lib.Dec.{ltb, eqb}
 use borrow.Author.Tests.{ltb-true, ltb-false, eqb-true, eqb-false}
-use Rattle.words.specs.Said.{word, itemsSaid, pduSaid}
+use Rattle.said.specs.Said.{word, itemsSaid, pduSaid}
 use Rattle.writer.specs.Write.{Fit, faultOf}
 use Rattle.judge.specs.Length.{lengthSaid}
 use Rattle.judge.specs.Widths.{fits}

@@ -9,7 +9,7 @@ use Rattle.pdu.specs.Pdu.{blankPdu}
 use Rattle.pdu.specs.declared.Kind.{Kind}
 use Rattle.pdu.specs.declared.Kind.the-variants.{Wrong, Refused}
 use Rattle.pdu.specs.declared.Pdu.{Pdu}
-use Rattle.words.specs.Said.{word}
+use Rattle.said.specs.Said.{word}
 use Rattle.judge.specs.Length.{lengthSaid}
 use Rattle.judge.specs.Widths.{widest}
 

@@ -22,7 +22,7 @@ use Rattle.pdu.specs.declared.Kind.the-variants.{Invoke, Result, Ack, Abort, Se
 use Rattle.pdu.specs.declared.Pdu.{Pdu}
 use Rattle.reader.specs.declared.Head.{Head}
 use Rattle.reader.specs.Read.{flag, lowest, kindOf, typeOf, badHead, goodHead, headOf, whole, finishBy, finished, itemsAfter, afterHead, pduOf}
-use Rattle.words.specs.Said.{NarrowKind}
+use Rattle.said.specs.Said.{NarrowKind}
 use Rattle.writes_back.specs.WritesBack.{Octets}
 
 -- a kind that is a PDU's holds octets

@@ -19,7 +19,7 @@ use Rattle.pdu.specs.declared.Pdu.{Pdu}
 use Rattle.reader.specs.Read.{pduOf}
 use Rattle.writer.specs.Write.{itemsOf, octetsOf}
 use Rattle.words.specs.Words.{wordsOf}
-use Rattle.words.proofs.Stored.{length-words}
+use Rattle.said.proofs.Stored.{length-words}
 use Rattle.order.specs.Order.{InOrder}
 use Rattle.order.proofs.Order.{first-that-holds}
 use Rattle.judge.specs.Judge.{judgedOf, AsRead}

@@ -1,16 +1,15 @@
--- The words of the items, four for each: their number, one item more, and what stands in each. Assumes nothing.
+-- The words of the items, four for each: their number, and one item more. Assumes nothing.
 use Prim.Native.Nat.{ℕ, _+_, _*_, _<_}
 use native.Mathlib.Omega.{arith}
 use native.Mathlib.Numerals.{add-one}
 use mathlib.Core.Path.{_≡_, refl, sym, ap, _∙_}
 use mathlib.Core.List.{List, [], _∷_, _++_, append-nil, append-assoc}
-use lib.ListN.{length, getD, take, set, length-append}
-use lib.Seq.{take-suc, take-suc-set, length-take-le}
-use Rattle.seq.specs.Seq.{put, tab}
-use Rattle.seq.proofs.Laws.{put-append, tab-last}
+use lib.ListN.{length, getD, take, length-append}
+use lib.Seq.{take-suc, length-take-le}
+use Rattle.seq.specs.Seq.{put}
+use Rattle.seq.proofs.Laws.{put-append}
 use Rattle.items.specs.declared.Item.{Item}
 use Rattle.words.specs.Words.{itemWords, itemsWords}
-use Rattle.words.specs.Said.{itemSaid}
 
 pub length-items-words : (l : List Item) → length (itemsWords l) ≡ 4 * length l
 unfolding itemsWords itemWords
@@ -36,10 +35,3 @@ pub five-stores : (fields a b c d e : List ℕ) → length a ≡ 5 → length b 
     → put (put (put (put (put fields 0 a) 5 b) 9 c) 15 d) 24 e ≡ put fields 0 ((a ++ (b ++ (c ++ d))) ++ e)
 five-stores fields a b c d e la lb lc ld =
     rw (put-append (a ++ (b ++ (c ++ d))) e fields 0, put-append a (b ++ (c ++ d)) fields 0, length-append a (b ++ (c ++ d)), length-append b (c ++ d), length-append c d, la, put-append b (c ++ d), put-append c d, lb, lc, ld)
-
--- the items said by k quadruples of words, and then the next
-pub one-more-said : (w : List ℕ) (list : List Item) (k : ℕ) (it : Item) → k < length list → take k list ≡ tab (itemSaid w) k 0 → it ≡ itemSaid w k
-    → take (k + 1) (set list k it) ≡ tab (itemSaid w) (k + 1) 0
-one-more-said w list k it h e q =
-    let z : 0 + k ≡ k = omega arith in
-    rw (tab-last (itemSaid w) k 0, z, add-one) (take-suc-set list k it h ∙ rw (e, q))

@@ -15,8 +15,8 @@ use Rattle.pdu.specs.declared.Kind.{Kind}
 use Rattle.pdu.specs.declared.Kind.the-variants.{Invoke, Result, Ack, Abort, SegInvoke, SegResult, Nack, Wrong, Refused}
 use Rattle.pdu.specs.declared.Pdu.{Pdu}
 use Rattle.words.specs.Words.{wordsOf}
-use Rattle.words.specs.Said.{pduSaid, NarrowKind}
-use Rattle.words.proofs.Stored.{length-words}
+use Rattle.said.specs.Said.{pduSaid, NarrowKind}
+use Rattle.said.proofs.Stored.{length-words}
 use Rattle.writer.specs.Write.{octetsOf}
 use Rattle.judge.specs.Judge.{AsRead}
 use Rattle.judge_order.specs.Order.{FirstOf}

@@ -10,7 +10,7 @@ use Rattle.judge.proofs.fault_in.Reads as fault-in-reads
 use Rattle.judge.proofs.fit.Reads as fit-reads
 use Rattle.judge.proofs.over_long.Reads as over-long-reads
 use Rattle.pdu.proofs.blank.Reads as blank-reads
-use Rattle.words.proofs.said.Reads as said-reads
+use Rattle.said.proofs.said.Reads as said-reads
 
 -- src/lib.rt:255:8
 shared-slice-read-if1 : tie.Need-shared-slice-read-if1

@@ -8,7 +8,7 @@ use borrow.Author.Tests.{le-leb, lt-leb, lt-ltb, le-ltb}
 use denote.Ref.{now}
 use Rattle.seq.specs.Seq.{every}
 use Rattle.seq.proofs.Laws.{every-none, every-more, every-fails}
-use Rattle.words.specs.Said.{word}
+use Rattle.said.specs.Said.{word}
 use Rattle.judge.specs.Widths.{widest, widths, narrowAt, noneTooWide}
 use borrow.Author.Needs.{needs}
 use Rattle.judge.proofs.none_too_wide.Statement.{statement}

@@ -1,11 +1,11 @@
--- `words::item_said` meets its contract. Assumes nothing.
-use Rattle.words.specs.Said.{itemSaid}
+-- `said::item_said` meets its contract. Assumes nothing.
+use Rattle.said.specs.Said.{itemSaid}
 use borrow.Author.Needs.{needs}
-use Rattle.words.proofs.item_said.Statement.{statement}
-use Rattle.words.proofs.item_said.Tie as tie
-use Rattle.words.proofs.item_said.Reads as reads
-use Rattle.words.proofs.item_said.Lts as lts
-use Rattle.words.proofs.octet.Reads as octet-reads
+use Rattle.said.proofs.item_said.Statement.{statement}
+use Rattle.said.proofs.item_said.Tie as tie
+use Rattle.said.proofs.item_said.Reads as reads
+use Rattle.said.proofs.item_said.Lts as lts
+use Rattle.said.proofs.octet.Reads as octet-reads
 
 -- src/lib.rt:183:19
 mul-at : tie.Need-mul-at

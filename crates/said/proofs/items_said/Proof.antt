@@ -1,4 +1,4 @@
--- `words::items_said` meets its contract: after k turns the first k items are those that the words say. Assumes nothing.
+-- `said::items_said` meets its contract: after k turns the first k items are those that the words say. Assumes nothing.
 use Prim.Native.Nat.{ℕ, _≤_, _-_}
 use native.Mathlib.Omega.{arith}
 use mathlib.Core.Path.{_≡_, refl, sym, ap, _∙_}
@@ -7,15 +7,15 @@ use lib.ListN.{length, take, length-set}
 use lib.Seq.{take-all}
 use Rattle.seq.specs.Seq.{tab}
 use Rattle.items.specs.declared.Items.{Items}
-use Rattle.words.specs.Said.{itemSaid, itemsSaid}
-use Rattle.words.proofs.Laws.{one-more-said}
+use Rattle.said.specs.Said.{itemSaid, itemsSaid}
+use Rattle.said.proofs.Items.{one-more-said}
 use borrow.Author.Needs.{needs}
-use Rattle.words.proofs.items_said.Statement.{statement}
-use Rattle.words.proofs.items_said.Tie as tie
-use Rattle.words.proofs.items_said.Reads as reads
-use Rattle.words.proofs.items_said.Lts as lts
+use Rattle.said.proofs.items_said.Statement.{statement}
+use Rattle.said.proofs.items_said.Tie as tie
+use Rattle.said.proofs.items_said.Reads as reads
+use Rattle.said.proofs.items_said.Lts as lts
 use Rattle.items.proofs.none.Reads as none-reads
-use Rattle.words.proofs.item_said.Reads as item-said-reads
+use Rattle.said.proofs.item_said.Reads as item-said-reads
 
 abbrev Inv-loop : tie.InvT-loop
 Inv-loop words list₀ k₀ list k = (k ≤ 16) × ((length list ≡ 16) × (take k list ≡ tab (itemSaid words) k 0))

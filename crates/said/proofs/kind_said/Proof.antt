@@ -1,16 +1,16 @@
--- `words::kind_said` meets its contract, type by type. Assumes nothing.
+-- `said::kind_said` meets its contract, type by type. Assumes nothing.
 use mathlib.Core.Path.{sym, _∙_}
 use denote.Ref.{now}
 use borrow.Author.Tests.{ne-eqb}
-use Rattle.words.specs.Said.{kindSaid}
-use Rattle.words.proofs.ByType.{said-invoke, said-result, said-ack, said-abort, said-seg-invoke, said-seg-result, said-nack}
+use Rattle.said.specs.Said.{kindSaid}
+use Rattle.said.proofs.ByType.{said-invoke, said-result, said-ack, said-abort, said-seg-invoke, said-seg-result, said-nack}
 use borrow.Author.Needs.{needs}
-use Rattle.words.proofs.kind_said.Statement.{statement}
-use Rattle.words.proofs.kind_said.Tie as tie
-use Rattle.words.proofs.kind_said.Reads as reads
-use Rattle.words.proofs.kind_said.Lts as lts
-use Rattle.words.proofs.invoke_said.Reads as invoke-said-reads
-use Rattle.words.proofs.octet.Reads as octet-reads
+use Rattle.said.proofs.kind_said.Statement.{statement}
+use Rattle.said.proofs.kind_said.Tie as tie
+use Rattle.said.proofs.kind_said.Reads as reads
+use Rattle.said.proofs.kind_said.Lts as lts
+use Rattle.said.proofs.invoke_said.Reads as invoke-said-reads
+use Rattle.said.proofs.octet.Reads as octet-reads
 
 -- src/lib.rt:146:15
 shared-slice-read-gtr : tie.Need-shared-slice-read-gtr

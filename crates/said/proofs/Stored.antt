@@ -14,10 +14,10 @@ use Rattle.items.specs.declared.Item.{Item}
 use Rattle.pdu.specs.declared.Kind.{Kind}
 use Rattle.pdu.specs.declared.Kind.the-variants.{Invoke, Result, Ack, Abort, SegInvoke, SegResult, Nack, Wrong, Refused}
 use Rattle.pdu.specs.declared.Pdu.{Pdu}
 use Rattle.words.specs.Words.{frontWords, invokeWords, otherWords, restWords, itemWords, itemsWords, headWords, wordsOf}
-use Rattle.words.specs.Said.{word, set?, kindSaid, itemSaid, itemsSaid, pduSaid, NarrowKind, Narrow}
+use Rattle.said.specs.Said.{word, set?, kindSaid, itemSaid, itemsSaid, pduSaid, NarrowKind, Narrow}
 use Rattle.words.proofs.Laws.{length-items-words}
-use Rattle.words.proofs.ByType.{said-invoke, said-result, said-ack, said-abort, said-seg-invoke, said-seg-result, said-nack}
+use Rattle.said.proofs.ByType.{said-invoke, said-result, said-ack, said-abort, said-seg-invoke, said-seg-result, said-nack}
 
 bit-said : (b : Bool) → eqb (bit b) 1 ≡ b
 bit-said true = refl

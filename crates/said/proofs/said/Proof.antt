@@ -1,12 +1,12 @@
--- `words::said` meets its contract. Assumes nothing.
-use Rattle.words.specs.Said.{pduSaid}
+-- `said::said` meets its contract. Assumes nothing.
+use Rattle.said.specs.Said.{pduSaid}
 use borrow.Author.Needs.{needs}
-use Rattle.words.proofs.said.Statement.{statement}
-use Rattle.words.proofs.said.Tie as tie
-use Rattle.words.proofs.said.Reads as reads
-use Rattle.words.proofs.said.Lts as lts
-use Rattle.words.proofs.items_said.Reads as items-said-reads
-use Rattle.words.proofs.kind_said.Reads as kind-said-reads
+use Rattle.said.proofs.said.Statement.{statement}
+use Rattle.said.proofs.said.Tie as tie
+use Rattle.said.proofs.said.Reads as reads
+use Rattle.said.proofs.said.Lts as lts
+use Rattle.said.proofs.items_said.Reads as items-said-reads
+use Rattle.said.proofs.kind_said.Reads as kind-said-reads
 
 -- src/lib.rt:213:9
 kind-said-requires : tie.Need-kind-said-requires

@@ -3,7 +3,7 @@ use Prim.Native.Nat.{ℕ, _%_}
 use mathlib.Core.Path.{_≡_}
 use mathlib.Core.List.{List}
 use Rattle.pdu.specs.declared.Kind.the-variants.{Result, Ack, Abort, SegInvoke, SegResult, Nack}
-use Rattle.words.specs.Said.{word, set?, invokeSaid, kindSaid}
+use Rattle.said.specs.Said.{word, set?, invokeSaid, kindSaid}
 
 module _ (w : List ℕ) where
   pub said-invoke : word w 0 ≡ 1 → kindSaid w ≡ invokeSaid w
