@@ -1,4 +1,4 @@
-// Runs the codec cases of its input, a line each, through the C interface, and prints what each gives:
+// Runs the codec cases of its input, a line each, through the functions that the C interface names, and prints what each gives:
 //   r OCTETS            read as a PDU; what was read is then written
 //   w N=V .. /OCTETS    write the PDU of these words, whose parts lie in the octets
 //   s OCTETS            separate, and read each part

@@ -2,4 +2,3 @@ pub mod Rows
 pub mod Named
 pub mod Meaning
 pub mod Accepted
-pub mod Exact

@@ -3,7 +3,6 @@ use Prim.Native.Nat.{ℕ, _≤_, _<_}
 use mathlib.Core.Path.{_≡_}
 use mathlib.Core.List.{List, [], _∷_, _++_}
 use mathlib.Core.Bool.{Bool, true, false, not}
-use mathlib.Core.Logic.{_⊎_}
 use lib.Dec.{ltb, eqb}
 use Rattle.seq.specs.Seq.{pick}
 use Rattle.numbers.specs.declared.Refusal.the-variants.{PeerTooLarge, TooLong, NoRecord, NotAllowed}
@@ -11,7 +10,7 @@ use Rattle.record.specs.Record.{roleOf, classOf, roleNumber}
 use Rattle.record.specs.declared.Role.{Role}
 use Rattle.record.specs.declared.Role.the-variants.{Initiator, Responder}
 use Rattle.table.specs.Table.{count, recordAt}
-use Rattle.ranges.specs.Ranges.{peers, cellSize, exitBound}
+use Rattle.ranges.specs.Ranges.{cellSize, exitBound}
 use Rattle.record_ok.specs.OneRecord.{Live}
 use Rattle.finding.specs.Finding.{isFound, namedOf}
 use Rattle.finding.specs.declared.Found.{Found}
@@ -21,7 +20,7 @@ use Rattle.events.specs.declared.Event.{Event}
 use Rattle.events.specs.declared.Row.{Row}
 use Rattle.events.specs.declared.Row.the-variants as Row
 use Rattle.turns.specs.declared.Given.{Given}
-use Rattle.judging.specs.Judging.{Test, test, lowest, planBy, Condition, condition, unfit, Unfit, tooLate, Late}
+use Rattle.judging.specs.Judging.{Test, test, lowest, planBy, unfit, tooLate}
 use Rattle.steps.specs.Steps.{noPart}
 use Rattle.steps.specs.declared.Call.{Call}
 use Rattle.steps.specs.declared.Tells.the-variants.{Nothing}
@@ -31,7 +30,7 @@ use Rattle.opens.specs.Opens.{placeFor}
 use Rattle.turning.specs.Turning.{rowAt, liveStep}
 use Rattle.primitives.specs.declared.Primitive.{Primitive}
 
--- ---- the conditions, as document 01's table says them
+-- ---- what the conditions of its refusals name; the conditions are in crates/refusals
 
 -- the live record at place i has the role, peer and TID that the primitive names; role 0 is the initiator's, 1 the responder's
 pub record Named (t : List ℕ) (p : Primitive) (i : ℕ) : Type 0 where
@@ -48,31 +47,11 @@ pub record ExitRefused (t : List ℕ) (p : Primitive) (i : ℕ) : Type 0 where
   pub responder : roleOf (recordAt t i .state) ≡ Responder
   pub class : classOf (recordAt t i .state) ≡ 2
 
--- 4: "a primitive's data or exit information too long, or exit information with an answer naming a live class 2 responder record"
-abbrev pub TooMuch : List ℕ → Primitive → Type 0
-TooMuch t p = (cellSize < p .len) ⊎ (exitBound < p .«exit_len») ⊎ ((i : ℕ) × ExitRefused t p i)
-
 -- 8: "the named role, peer and TID has no live record"
 abbrev pub NoneNamed : List ℕ → Primitive → Type 0
 NoneNamed t p = (i : ℕ) → Named t p i → ⊥
 
--- 9: "the primitive isn't allowed in that state": "a primitive without [a row] gets 9"
-pub record NoRow (t : List ℕ) (p : Primitive) (i : ℕ) : Type 0 where
-  pub names : Named t p i
-  pub row : rowAt t i (p .event) ≡ Row.NotAllowed
-
--- numbers 1, 2, 3, 4, 8, 9
-abbrev pub primitiveConditions : List ℕ → ℕ → ℕ → Primitive → List Condition
-primitiveConditions t store output p =
-    Unfit t store output
-    ∷ Late t (p .time)
-    ∷ condition PeerTooLarge (peers ≤ p .peer)
-    ∷ condition TooLong (TooMuch t p)
-    ∷ condition NoRecord (NoneNamed t p)
-    ∷ condition NotAllowed ((i : ℕ) × NoRow t p i)
-    ∷ []
-
--- ---- their tests
+-- ---- the tests of its refusals
 
 -- the record that a primitive names; a role other than 0 and 1 names none
 unfoldable pub namedBy : List ℕ → ℕ → ℕ → ℕ → Found

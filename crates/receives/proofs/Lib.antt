@@ -1,7 +1,6 @@
 pub mod Accepted
 pub mod Answered
 pub mod Dispatch
-pub mod Exact
 pub mod Holders
 pub mod Kept
 pub mod Ways

@@ -3,7 +3,6 @@ use Prim.Native.Nat.{ℕ, _%_, _≤_, _<_}
 use mathlib.Core.Path.{_≡_}
 use mathlib.Core.List.{List, [], _∷_}
 use mathlib.Core.Bool.{Bool, true, false, not}
-use mathlib.Core.Logic.{_⊎_}
 use lib.ListN.{length}
 use lib.Dec.{ltb, eqb}
 use Rattle.seq.specs.Seq.{pick}
@@ -28,7 +27,7 @@ use Rattle.arrivals.specs.declared.Name.{Name}
 use Rattle.arrivals.specs.declared.Name.the-variants.{Nobody, Of}
 use Rattle.turns.specs.declared.Given.{Given}
 use Rattle.commit.specs.declared.Header.the-variants.{Kept}
-use Rattle.judging.specs.Judging.{Test, test, lowest, planBy, Condition, condition, unfit, Unfit, tooLate, Late}
+use Rattle.judging.specs.Judging.{Test, test, lowest, planBy, unfit, tooLate}
 use Rattle.steps.specs.Steps.{noPart, idleStep}
 use Rattle.steps.specs.declared.Part.{Part}
 use Rattle.steps.specs.declared.Holder.{Holder}
@@ -40,22 +39,7 @@ use Rattle.opens.specs.Opens.{placeFor, openingStep}
 use Rattle.turning.specs.Turning.{liveStep}
 use Rattle.receives.specs.declared.Wish.{Wish}
 
--- ---- the conditions, as document 01's table says them
-
--- 11: "datagram or PDU length outside 1 to 1,500"
-abbrev pub OutsideLength : ℕ → Type 0
-OutsideLength len = (len ≡ 0) ⊎ (1500 < len)
-
--- numbers 1, 2, 3 and 11
-abbrev pub receiveConditions : List ℕ → ℕ → ℕ → ℕ → ℕ → ℕ → List Condition
-receiveConditions t store output time peer len =
-    Unfit t store output
-    ∷ Late t time
-    ∷ condition PeerTooLarge (peers ≤ peer)
-    ∷ condition WrongLength (OutsideLength len)
-    ∷ []
-
--- their tests
+-- the tests of its refusals; document 01's conditions are in crates/refusals
 abbrev pub receiveTests : List ℕ → ℕ → ℕ → ℕ → ℕ → ℕ → List Test
 receiveTests t store output time peer len =
     unfit t store output

@@ -31,7 +31,7 @@ use Rattle.opens.specs.Opens.{placeFor}
 use Rattle.places.proofs.Places.{place-small, free-place}
 use Rattle.requests.specs.Requests.{UsesGenTid, entryTests, fullTests, requestTests, noneFree, requestStep, requestPlan}
 use Rattle.requests.specs.declared.Request.{Request}
-use Rattle.requests.proofs.Exact.{tells-in-use}
+use Rattle.requests.proofs.InUse.{tells-in-use}
 
 -- none of the numbers 1 to 6 applies
 pub record Admitted (t : List ℕ) (store output : ℕ) (q : Request) : Type 0 where

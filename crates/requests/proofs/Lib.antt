@@ -1,4 +1,4 @@
 pub mod Passed
-pub mod Exact
+pub mod InUse
 pub mod Accepted
 pub mod Staged

@@ -1,5 +1,5 @@
 -- A request (01, "Events", "Initiator"): its refusals, and the step of an accepted one.
-use Prim.Native.Nat.{ℕ, _%_, _≤_, _<_}
+use Prim.Native.Nat.{ℕ, _%_, _<_}
 use mathlib.Core.Path.{_≡_}
 use mathlib.Core.List.{List, [], _∷_, _++_}
 use mathlib.Core.Bool.{Bool, false, not}
@@ -17,7 +17,7 @@ use Rattle.rows.specs.Rows.{requestedOf}
 use Rattle.tids.specs.Tids.{nextTid}
 use Rattle.turns.specs.declared.Given.{Given}
 use Rattle.commit.specs.declared.Header.the-variants.{Set}
-use Rattle.judging.specs.Judging.{Test, test, lowest, planBy, Condition, condition, unfit, Unfit, tooLate, Late}
+use Rattle.judging.specs.Judging.{Test, test, lowest, planBy, unfit, tooLate}
 use Rattle.steps.specs.Steps.{noPart}
 use Rattle.steps.specs.declared.Holder.{Holder}
 use Rattle.steps.specs.declared.Call.{Call}
@@ -27,8 +27,6 @@ use Rattle.steps.specs.declared.Plan.{Plan}
 use Rattle.opens.specs.Opens.{placeFor, openingStep}
 use Rattle.requests.specs.declared.Request.{Request}
 
--- ---- the conditions, as document 01's table says them
-
 -- 6: "GenTID is the TID of a live initiator record, any peer"
 pub record UsesGenTid (t : List ℕ) (i : ℕ) : Type 0 where
   pub inside : i < count t
@@ -36,23 +34,7 @@ pub record UsesGenTid (t : List ℕ) (i : ℕ) : Type 0 where
   pub initiator : roleOf (recordAt t i .state) ≡ Initiator
   pub tid : recordAt t i .tid ≡ genTidOf t
 
--- 7: "class 1 or 2 requested and no record is free"
-abbrev pub NoneFree : List ℕ → ℕ → Type 0
-NoneFree t class = (1 ≤ class) × ((i : ℕ) → i < count t → Live (recordAt t i))
-
--- numbers 1 to 7; 3: "peer over 255", 4: "a primitive's data .. too long", 5: "requested class over 2"
-abbrev pub requestConditions : List ℕ → ℕ → ℕ → Request → List Condition
-requestConditions t store output q =
-    Unfit t store output
-    ∷ Late t (q .time)
-    ∷ condition PeerTooLarge (peers ≤ q .peer)
-    ∷ condition TooLong (cellSize < q .len)
-    ∷ condition WrongClass (2 < q .class)
-    ∷ condition TidInUse ((i : ℕ) × UsesGenTid t i)
-    ∷ condition TableFull (NoneFree t (q .class))
-    ∷ []
-
--- ---- their tests
+-- ---- the tests of its refusals; document 01's conditions are in crates/refusals
 
 -- numbers 1 to 6
 abbrev pub entryTests : List ℕ → ℕ → ℕ → Request → List Test

@@ -7,7 +7,7 @@ use Rattle.finding.specs.declared.Found.{Found}
 use Rattle.finding.specs.declared.Found.the-variants as Found
 use Rattle.events.specs.declared.Event.the-variants as Event
 use Rattle.turns.specs.declared.Given.{Given}
-use Rattle.judging.specs.Judging.{Test, lowest, planBy, Condition, unfit, Unfit, tooLate, Late}
+use Rattle.judging.specs.Judging.{Test, lowest, planBy, unfit, tooLate}
 use Rattle.steps.specs.Steps.{noPart, idleStep}
 use Rattle.steps.specs.declared.Call.{Call}
 use Rattle.steps.specs.declared.Tells.the-variants as Tells
@@ -15,10 +15,7 @@ use Rattle.steps.specs.declared.Step.{Step}
 use Rattle.steps.specs.declared.Plan.{Plan}
 use Rattle.turning.specs.Turning.{liveStep}
 
--- numbers 1 and 2, as document 01's table says them, and their tests
-abbrev pub timerConditions : List ℕ → ℕ → ℕ → ℕ → List Condition
-timerConditions t store output time = Unfit t store output ∷ Late t time ∷ []
-
+-- the tests of its refusals, numbers 1 and 2; document 01's conditions are in crates/refusals
 abbrev pub timerTests : List ℕ → ℕ → ℕ → ℕ → List Test
 timerTests t store output time = unfit t store output ∷ tooLate t time ∷ []
 

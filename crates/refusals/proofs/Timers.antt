@@ -3,7 +3,8 @@ use Prim.Native.Nat.{ℕ}
 use mathlib.Core.List.{List}
 use Rattle.judging.specs.Judging.{lowest, Lowest}
 use Rattle.judging.proofs.Exact.{lowest-exact, tells-unfit, tells-late}
-use Rattle.timers.specs.Timers.{timerConditions, timerTests}
+use Rattle.timers.specs.Timers.{timerTests}
+use Rattle.refusals.specs.Timers.{timerConditions}
 
 pub timer-exact : (t : List ℕ) (store output time : ℕ) → Lowest (timerConditions t store output time) (lowest (timerTests t store output time))
 timer-exact t store output time =

@@ -13,7 +13,8 @@ use Rattle.numbers.specs.declared.Refusal.the-variants.{PeerTooLarge, WrongLeng
 use Rattle.ranges.specs.Ranges.{peers}
 use Rattle.judging.specs.Judging.{test, lowest, condition, Lowest}
 use Rattle.judging.proofs.Exact.{Tells, lowest-exact, tells-unfit, tells-late}
-use Rattle.receives.specs.Receives.{OutsideLength, receiveConditions, receiveTests}
+use Rattle.receives.specs.Receives.{receiveTests}
+use Rattle.refusals.specs.Receives.{OutsideLength, receiveConditions}
 
 tells-peer : (peer : ℕ) → Tells (test PeerTooLarge (ltb 255 peer)) (condition PeerTooLarge (peers ≤ peer))
 tells-peer peer = (refl, λ e. omega (arith, ltb-true 255 peer e), λ e h. absurd (omega (arith, ltb-false 255 peer e, h)))

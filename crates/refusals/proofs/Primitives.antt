@@ -18,10 +18,11 @@ use Rattle.finding.specs.declared.Found.the-variants.{At, Nothing}
 use Rattle.turning.specs.Turning.{rowAt}
 use Rattle.judging.specs.Judging.{lowest, Lowest, test, condition}
 use Rattle.judging.proofs.Exact.{Tells, lowest-exact, tells-unfit, tells-late}
-use Rattle.primitives.specs.Primitives.{ExitRefused, TooMuch, NoneNamed, NoRow, primitiveConditions, exitRefused, tooMuch, notAllowed, foundFor, primitiveTests}
+use Rattle.primitives.specs.Primitives.{ExitRefused, NoneNamed, exitRefused, tooMuch, notAllowed, foundFor, primitiveTests}
 use Rattle.primitives.specs.declared.Primitive.{Primitive}
 use Rattle.primitives.proofs.Named.{found-named, found-none, one-named}
 use Rattle.primitives.proofs.Meaning.{TooMuchBy, NotTooMuch, exit-refused, exit-not-refused, too-much, not-too-much, row-refuses, row-allows}
+use Rattle.refusals.specs.Primitives.{TooMuch, NoRow, primitiveConditions}
 
 tells-peer : (p : Primitive) → Tells (test PeerTooLarge (ltb 255 (p .peer))) (condition PeerTooLarge (peers ≤ p .peer))
 tells-peer p = (refl, λ e. omega (arith, ltb-true 255 (p .peer) e), λ e h. absurd (omega (arith, h, ltb-false 255 (p .peer) e)))

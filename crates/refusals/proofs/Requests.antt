@@ -1,5 +1,5 @@
 -- A request's refusal is exact: each of the numbers 1 to 7 is given if and only if its condition holds and no lower one's does. Assumes nothing.
-use Prim.Native.Nat.{ℕ, _≤_, _<_}
+use Prim.Native.Nat.{ℕ, _<_}
 use native.Mathlib.Omega.{arith}
 use mathlib.Core.Path.{_≡_, refl, sym}
 use mathlib.Core.List.{List}
@@ -9,46 +9,25 @@ use borrow.Author.Tests.{ltb-true, ltb-false}
 use Rattle.seq.specs.Seq.{pick}
 use Rattle.seq.proofs.Laws.{true-false}
 use Rattle.numbers.specs.declared.Refusal.{Refusal}
-use Rattle.numbers.specs.declared.Refusal.the-variants.{PeerTooLarge, TooLong, WrongClass, TidInUse, TableFull}
-use Rattle.record.specs.Record.{stateNumber}
-use Rattle.record.specs.declared.State.{State}
-use Rattle.record.specs.declared.State.the-variants.{Free}
-use Rattle.table.specs.Table.{count, genTidOf, recordAt}
-use Rattle.finding.specs.Finding.{freeOf, isFound, tidInUse}
+use Rattle.numbers.specs.declared.Refusal.the-variants.{PeerTooLarge, TooLong, WrongClass, TableFull}
+use Rattle.table.specs.Table.{count, recordAt}
+use Rattle.finding.specs.Finding.{freeOf, isFound}
 use Rattle.finding.specs.declared.Found.{Found}
 use Rattle.finding.specs.declared.Found.the-variants.{At, Nothing}
-use Rattle.finding.proofs.Meaning.{free-found, free-nothing, tid-used, tid-unused}
+use Rattle.finding.proofs.Meaning.{free-found, free-nothing}
 use Rattle.judging.specs.Judging.{test, lowest, condition, Lowest}
 use Rattle.judging.proofs.Exact.{Tells, lowest-exact, tells-unfit, tells-late}
 use Rattle.places.proofs.Places.{live-number}
-use Rattle.requests.specs.Requests.{UsesGenTid, NoneFree, noneFree, requestConditions, requestTests}
+use Rattle.requests.specs.Requests.{noneFree, requestTests}
 use Rattle.requests.specs.declared.Request.{Request}
-
--- a live state isn't free
-not-free : (s : State) → 1 ≤ stateNumber s → s ≡ Free → ⊥
-not-free s h e =
-    let l : 1 ≤ stateNumber Free = rw e at h in
-    absurd (omega arith)
+use Rattle.requests.proofs.InUse.{not-free, tells-in-use}
+use Rattle.refusals.specs.Requests.{NoneFree, requestConditions}
 
 -- numbers 3, 4 and 5: a number over its bound
 tells-over : (r : Refusal) (most n : ℕ) (Over : Type 0) → (most < n → Over) → (Over → most < n) → Tells (test r (ltb most n)) (condition r Over)
 tells-over r most n Over there back = (refl, λ e. there (ltb-true most n e), λ e h. absurd (omega (arith, ltb-false most n e, back h)))
 
 module _ (t : List ℕ) where
-  -- number 6
-  pub tells-in-use : Tells (test TidInUse (tidInUse t (count t) (genTidOf t))) (condition TidInUse ((i : ℕ) × UsesGenTid t i))
-  tells-in-use = (refl, yes, no)
-    where
-      yes : tidInUse t (count t) (genTidOf t) ≡ true → (i : ℕ) × UsesGenTid t i
-      yes e =
-          let u = tid-used t (count t) (genTidOf t) e in
-          let s = u .1 .is-so in
-          (u .0, record { inside = u .1 .below; live = live-number (recordAt t (u .0) .state) (s .live); initiator = s .role-is; tid = s .tid-is })
-
-      no : tidInUse t (count t) (genTidOf t) ≡ false → (i : ℕ) × UsesGenTid t i → ⊥
-      no e (i, u) =
-          tid-unused t (count t) (genTidOf t) e i (u .inside) (record { live = not-free (recordAt t i .state) (u .live); role-is = u .initiator; tid-is = u .tid })
-
   -- number 7
   tells-full : (class : ℕ) → Tells (test TableFull (noneFree (freeOf t (count t)) class)) (condition TableFull (NoneFree t class))
   unfolding noneFree
