@@ -1,5 +1,5 @@
 -- From a plan to what is carried out, case by case. Assumes nothing.
-use mathlib.Core.Path.{_≡_, refl, sym, _∙_}
+use mathlib.Core.Path.{_≡_, refl, _∙_}
 use Rattle.numbers.specs.declared.Refusal.{Refusal}
 use Rattle.steps.specs.declared.Step.{Step}
 use Rattle.steps.specs.declared.Plan.{Plan}

@@ -1,22 +1,19 @@
 -- GenTID: an accepted request counts it by one, and no other call changes it. Assumes nothing.
-use Prim.Native.Nat.{ℕ, _+_, _*_, _%_, _≤_, _<_}
+use Prim.Native.Nat.{ℕ, _+_, _*_, _≤_}
 use native.Mathlib.Omega.{arith}
-use mathlib.Core.Path.{_≡_, refl, sym, ap, _∙_}
+use mathlib.Core.Path.{_≡_, refl, _∙_}
 use mathlib.Core.List.{List}
 use mathlib.Core.Bool.{Bool, true, false}
 use mathlib.Core.Logic.{_⊎_, inl, inr}
-use lib.ListN.{length, replicate, length-replicate}
+use lib.ListN.{replicate}
 use Rattle.seq.specs.Seq.{put}
 use Rattle.seq.proofs.Laws.{true-false}
 use Rattle.octets.specs.Octets.{enc}
 use Rattle.octets.proofs.Laws.{length-enc}
 use Rattle.record.specs.Record.{octetsOf}
-use Rattle.pdu.specs.declared.Pdu.{Pdu}
 use Rattle.reader.specs.Read.{pduOf}
-use Rattle.table.specs.Table.{headerSize, base, exitBase, count, genTidOf, putRecord, clearRecord, putGenTid, putCached, putClock}
+use Rattle.table.specs.Table.{base, exitBase, count, genTidOf, putRecord, clearRecord, putCached, putClock}
 use Rattle.table.proofs.Apart.{gen-tid-apart}
-use Rattle.table.proofs.Put.{gen-tid-same}
-use Rattle.tids.specs.Tids.{nextTid}
 use Rattle.finding.specs.Finding.{dueOf}
 use Rattle.finding.specs.declared.Found.{Found}
 use Rattle.finding.specs.declared.Found.the-variants as Found
@@ -26,7 +23,6 @@ use Rattle.commit.specs.declared.Header.{Header}
 use Rattle.commit.specs.declared.Header.the-variants.{Kept, Set}
 use Rattle.commit.specs.declared.Changes.{Changes}
 use Rattle.commit.specs.Commit.{recordChanged, exitStored, genTidChanged, cacheChanged, tableAfter}
-use Rattle.commit.proofs.Length.{length-changed}
 use Rattle.changes.specs.Changes.{turnChanges}
 use Rattle.steps.specs.Steps.{stepOf, idleChanges, idleStep}
 use Rattle.steps.specs.declared.Step.{Step}
@@ -34,9 +30,6 @@ use Rattle.steps.specs.declared.Plan.{Plan}
 use Rattle.steps.specs.declared.Plan.the-variants.{Refuse, Go}
 use Rattle.turning.specs.Turning.{liveStep}
 use Rattle.opens.specs.Opens.{openingChanges, openingStep}
-use Rattle.requests.specs.Requests.{requestStep}
-use Rattle.requests.specs.declared.Request.{Request}
-use Rattle.requests.proofs.Accepted.{request-accepted}
 use Rattle.primitives.specs.Primitives.{primitiveStep}
 use Rattle.primitives.specs.declared.Primitive.{Primitive}
 use Rattle.primitives.proofs.Accepted.{primitive-accepted}
@@ -45,7 +38,7 @@ use Rattle.receives.proofs.Ways.{Taken, Unmatched, ways}
 use Rattle.receives.proofs.Accepted.{receive-accepted}
 use Rattle.timers.specs.Timers.{stepBy, timerStep}
 use Rattle.timers.proofs.Accepted.{timer-accepted}
-use Rattle.carry.specs.Carry.{Lent, Done, tableThen, carriedOut, outcome}
+use Rattle.carry.specs.Carry.{Lent, tableThen, carriedOut, outcome}
 use Rattle.calls.specs.Calls.{storeSize, outputSize}
 use Rattle.calls_laws.specs.Promise.{Call, promised, planFor}
 use Rattle.calls_laws.proofs.Outcomes.{as-planned}

@@ -4,7 +4,6 @@ use mathlib.Core.Path.{_≡_, refl, sym, ap, _∙_}
 use mathlib.Core.List.{List}
 use mathlib.Core.Bool.{Bool, true, false, _&&_, _||_}
 use mathlib.Core.Logic.{_⊎_, inl, inr}
-use lib.ListN.{length}
 use Rattle.seq.specs.Seq.{pick}
 use Rattle.seq.proofs.Laws.{true-false}
 use Rattle.table.specs.Table.{count, genTidOf, recordAt}
@@ -30,7 +29,6 @@ use Rattle.shown.specs.declared.Shown.the-variants as Shown
 use Rattle.commit.specs.declared.Header.the-variants.{Kept, Set}
 use Rattle.opens.specs.Opens.{placeFor}
 use Rattle.steps.specs.declared.Holder.{Holder}
-use Rattle.well_formed.specs.WellFormed.{WellFormed}
 use Rattle.steps.specs.Steps.{placeIn, contextOf, idleStep}
 use Rattle.steps.specs.declared.Step.{Step}
 use Rattle.steps.specs.declared.Plan.{Plan}
@@ -46,8 +44,8 @@ use Rattle.receives.proofs.Ways.{Taken, Unmatched, ways}
 use Rattle.receives.proofs.Accepted.{receive-accepted}
 use Rattle.timers.specs.Timers.{firedGiven, firedCall, stepBy, timerStep}
 use Rattle.timers.proofs.Accepted.{timer-accepted}
-use Rattle.carry.specs.Carry.{Lent, Done, carriedOut, outcome}
-use Rattle.calls.specs.Calls.{storeSize, outputSize, asRequest, asAnswer, asResult, asAbort}
+use Rattle.carry.specs.Carry.{Lent, carriedOut, outcome}
+use Rattle.calls.specs.Calls.{storeSize, outputSize}
 use Rattle.never_mixed.specs.NeverMixed.{stepAborts, stepResults, showsAbort, showsResult}
 use Rattle.never_mixed.proofs.Steps.{live-never-both, live-result-exactly, opening-neither, idle-neither}
 use Rattle.calls_laws.specs.Promise.{Call, promised, planFor}

@@ -7,11 +7,10 @@ use lib.ListN.{length}
 use Rattle.numbers.specs.declared.Refusal.{Refusal}
 use Rattle.ranges.specs.Ranges.{exitBound}
 use Rattle.steps.specs.declared.Step.{Step}
-use Rattle.steps.specs.declared.Plan.{Plan}
 use Rattle.steps.specs.declared.Plan.the-variants.{Refuse, Go}
-use Rattle.carry.specs.Carry.{Lent, Done, done, carriedOut, outcome}
+use Rattle.carry.specs.Carry.{Lent, Done, done, outcome}
 use Rattle.carry.specs.declared.Answer.{Answer}
-use Rattle.sound.specs.Sound.{Fits, Sound}
+use Rattle.sound.specs.Sound.{Fits}
 use Rattle.plans.specs.Plans.{PlanSound, Untouched, Kept, StillFits}
 use Rattle.plans.proofs.Outcome.{refused-untouched, step-keeps, still-fits}
 use Rattle.plans.proofs.Requests.{request-sound}

@@ -1,7 +1,7 @@
 -- The changes of a call touch the record at its place, one peer's cached TID, GenTID and the clock, and nothing else. Assumes nothing.
-use Prim.Native.Nat.{ℕ, _+_, _*_, _^_, _≤_, _<_}
+use Prim.Native.Nat.{ℕ, _+_, _*_, _≤_, _<_}
 use native.Mathlib.Omega.{arith}
-use mathlib.Core.Path.{_≡_, refl, sym, ap, _∙_}
+use mathlib.Core.Path.{_≡_, refl, _∙_}
 use mathlib.Core.List.{List}
 use mathlib.Core.Logic.{inl, inr}
 use mathlib.Core.Bool.{Bool, true, false}
@@ -10,12 +10,11 @@ use Rattle.seq.specs.Seq.{put}
 use Rattle.octets.specs.Octets.{enc}
 use Rattle.octets.proofs.Laws.{Apart, apart-rows, length-enc}
 use Rattle.record.specs.Record.{octetsOf}
-use Rattle.record.specs.declared.Record.{Record}
 use Rattle.record.proofs.Back.{length-octets}
-use Rattle.table.specs.Table.{headerSize, recordSize, base, exitBase, count, settingsOf, rowsOf, cachedOf, recordAt, clockOf, putRecord, clearRecord, putGenTid, putCached, putClock}
+use Rattle.table.specs.Table.{base, settingsOf, rowsOf, cachedOf, recordAt, putRecord, clearRecord, putGenTid, putCached, putClock}
 use Rattle.table.proofs.Apart.{settings-apart, rows-apart, cached-apart, record-apart}
 use Rattle.table.proofs.Put.{apart-records, clock-same}
-use Rattle.ranges.specs.Ranges.{timeBound, exitBound, peers}
+use Rattle.ranges.specs.Ranges.{exitBound, peers}
 use Rattle.well_formed.specs.WellFormed.{WellFormed}
 use Rattle.commit.specs.declared.Change.{Change}
 use Rattle.commit.specs.declared.Change.the-variants.{Nothing, Put, Clear}

@@ -1,21 +1,17 @@
 -- Allowed changes keep a table well formed. Assumes nothing.
-use Prim.Native.Nat.{ℕ, _+_, _*_, _-_, _/_, _≤_, _<_}
+use Prim.Native.Nat.{ℕ, _+_, _≤_, _<_}
 use native.Mathlib.Omega.{arith}
-use mathlib.Core.Path.{_≡_, refl, sym, ap, _∙_}
+use mathlib.Core.Path.{_≡_, refl}
 use mathlib.Core.List.{List}
 use mathlib.Core.Bool.{Bool, true, false}
 use lib.ListN.{length}
-use Rattle.seq.specs.Seq.{put}
 use Rattle.seq.proofs.Laws.{true-false}
-use Rattle.record.specs.Record.{stateNumber}
-use Rattle.record.specs.declared.Record.{Record}
-use Rattle.table.specs.Table.{headerSize, recordSize, base, exitBase, count, settingsOf, recordAt, putRecord, clearRecord, putGenTid, putCached, putClock}
+use Rattle.table.specs.Table.{recordSize, base, count, settingsOf, recordAt, putRecord}
 use Rattle.table.proofs.Put.{record-same}
 use Rattle.ranges.specs.Ranges.{tidBound, exitBound, peers}
 use Rattle.header_ok.specs.Header.{cachedBound}
-use Rattle.record_ok.specs.OneRecord.{Live, InRange}
+use Rattle.record_ok.specs.OneRecord.{Live}
 use Rattle.well_formed.specs.WellFormed.{WellFormed}
-use Rattle.kept.specs.Kept.{Unused}
 use Rattle.kept.proofs.InHeader.{clock-keeps, gen-tid-keeps, cached-keeps}
 use Rattle.kept.proofs.Keeps.{range-fits, put-keeps, clear-keeps, exit-keeps}
 use Rattle.commit.specs.declared.Change.{Change}

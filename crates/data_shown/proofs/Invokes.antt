@@ -9,8 +9,6 @@ use lib.ListN.{length}
 use Rattle.seq.specs.Seq.{part}
 use Rattle.seq.proofs.Laws.{true-false}
 use Rattle.record.specs.declared.Record.{Record}
-use Rattle.pdu.specs.declared.Kind.{Kind}
-use Rattle.pdu.specs.declared.Kind.the-variants as Kind
 use Rattle.pdu.specs.declared.Pdu.{Pdu}
 use Rattle.reader.specs.Read.{pduOf}
 use Rattle.ranges.specs.Ranges.{cellSize}
@@ -44,7 +42,7 @@ use Rattle.steps.specs.declared.Call.{Call as Asked}
 use Rattle.steps.specs.declared.Step.{Step}
 use Rattle.steps.specs.declared.Plan.{Plan}
 use Rattle.steps.specs.declared.Plan.the-variants.{Refuse, Go}
-use Rattle.receives.specs.Receives.{userPart, wishOf, arriverOf, openedGiven, openedCall, openedStep, arrivalOpening, unmatchedStep}
+use Rattle.receives.specs.Receives.{userPart, arriverOf, openedGiven, openedCall, openedStep, arrivalOpening, unmatchedStep}
 use Rattle.receives.proofs.Ways.{Unmatched}
 use Rattle.carry.specs.Carry.{Lent, carriedOut, outcome}
 use Rattle.sound.specs.Sound.{Fits}

@@ -2,7 +2,7 @@
 use Prim.Native.Nat.{ℕ, _<_, _≤_}
 use native.Mathlib.Omega.{arith}
 use borrow.Author.Tests.{eqb-true}
-use mathlib.Core.Path.{_≡_, refl, sym, ap, _∙_}
+use mathlib.Core.Path.{_≡_, refl, sym, _∙_}
 use mathlib.Core.Bool.{Bool, true, false}
 use mathlib.Core.List.{List, _∷_}
 use mathlib.Core.Logic.{_⊎_, inl, inr}
@@ -10,10 +10,8 @@ use lib.Dec.{eqb}
 use Rattle.seq.specs.Seq.{pick}
 use Rattle.seq.proofs.Laws.{true-false}
 use Rattle.record.specs.Record.{stateNumber}
-use Rattle.record.specs.declared.Role.{Role}
 use Rattle.record.specs.declared.Role.the-variants.{Responder}
 use Rattle.record.specs.declared.State.{State}
-use Rattle.record.specs.declared.State.the-variants.{Free}
 use Rattle.record.specs.declared.Record.{Record}
 use Rattle.pdu.specs.declared.Pdu.{Pdu}
 use Rattle.reader.specs.Read.{pduOf}
@@ -26,11 +24,9 @@ use Rattle.events.specs.declared.Opening.the-variants as Opening
 use Rattle.rows.specs.Rows.{requestedOf, openingOf, invoke0Of, invoke12Of}
 use Rattle.rows.specs.declared.Arrived.{Arrived as Tests}
 use Rattle.arrivals.specs.Arrivals.{tidOf, nameOf}
-use Rattle.arrivals.specs.declared.Name.{Name}
-use Rattle.arrivals.specs.declared.Name.the-variants.{Nobody, Of}
 use Rattle.acts.specs.Acts.{openingAct}
 use Rattle.columns.specs.declared.Next.the-variants.{Ends}
-use Rattle.turns.specs.Turns.{newRecord, recordAfter, turnOf, openingTurn}
+use Rattle.turns.specs.Turns.{newRecord}
 use Rattle.turns.specs.declared.Given.{Given}
 use Rattle.turns.specs.declared.Turn.{Turn}
 use Rattle.commit.specs.declared.Change.{Change}

@@ -1,5 +1,5 @@
 -- Names: two are one or not; live records at two places of a well-formed table have two. Assumes nothing.
-use Prim.Native.Nat.{ℕ, _≤_, _<_}
+use Prim.Native.Nat.{ℕ, _<_}
 use native.Mathlib.Omega.{arith}
 use borrow.Author.Tests.{eqb-true, eqb-false}
 use mathlib.Core.Path.{_≡_, refl, ap}
@@ -8,11 +8,9 @@ use mathlib.Core.List.{List}
 use mathlib.Core.Logic.{_⊎_, inl, inr}
 use lib.Dec.{eqb}
 use Rattle.seq.proofs.Laws.{told, true-false}
-use Rattle.record.specs.Record.{stateNumber, roleNumber}
+use Rattle.record.specs.Record.{roleNumber}
 use Rattle.record.specs.declared.Role.{Role}
 use Rattle.record.specs.declared.Role.the-variants.{Initiator, Responder}
-use Rattle.record.specs.declared.State.{State}
-use Rattle.record.specs.declared.State.the-variants.{Free}
 use Rattle.record.specs.declared.Record.{Record}
 use Rattle.table.specs.Table.{count, recordAt}
 use Rattle.record_ok.specs.OneRecord.{Live}

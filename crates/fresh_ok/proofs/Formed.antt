@@ -1,20 +1,17 @@
 -- A table that the fresh-table call accepted is well formed, with no live record and nothing cached. Assumes nothing.
-use Prim.Native.Nat.{ℕ, zero, suc, _+_, _-_, _*_, _/_, _≤_, _<_}
+use Prim.Native.Nat.{ℕ, zero, suc, _+_, _≤_, _<_}
 use native.Mathlib.Omega.{arith}
-use mathlib.Core.Path.{_≡_, refl, sym, ap, _∙_}
+use mathlib.Core.Path.{_≡_, sym, ap, _∙_}
 use mathlib.Core.List.{List, [], _∷_}
 use mathlib.Core.Logic.{inl}
-use lib.ListN.{length, getD}
+use lib.ListN.{length}
 use Rattle.seq.specs.Seq.{tab}
 use Rattle.seq.proofs.Laws.{getD-tab}
 use Rattle.record.specs.Record.{stateNumber}
-use Rattle.record.specs.declared.State.{State}
-use Rattle.table.specs.Table.{headerSize, recordSize, base, count, clockOf, genTidOf, settingsOf, rowsOf, cachedOf, recordAt}
-use Rattle.table.specs.declared.Settings.{Settings}
+use Rattle.table.specs.Table.{base, count, settingsOf, recordAt}
 use Rattle.ranges.specs.Ranges.{Interval}
 use Rattle.header_ok.specs.Header.{SettingsOk, RowsOk, HeaderOk}
 use Rattle.record_ok.specs.OneRecord.{Live}
-use Rattle.names_ok.specs.Names.{SameName}
 use Rattle.well_formed.specs.WellFormed.{Sized, WellFormed}
 use Rattle.fresh.specs.Fresh.{freshAnswer, freshTable, tableAfter}
 use Rattle.fresh.specs.declared.Fresh.the-variants.{Made}

@@ -2,7 +2,7 @@
 use Prim.Native.Nat.{ℕ, zero, suc, _+_, _-_, _/_, _%_, _<_, _≤_}
 use native.Mathlib.Omega.{arith}
 use borrow.Author.Tests.{ltb-true, leb-true, eqb-true, eqb-false}
-use mathlib.Core.Path.{_≡_, refl, sym, ap, _∙_}
+use mathlib.Core.Path.{_≡_, refl}
 use mathlib.Core.List.{List}
 use mathlib.Core.Bool.{Bool, true, false}
 use mathlib.Core.Logic.{_⊎_, inl, inr}
@@ -10,7 +10,6 @@ use lib.ListN.{length, getD}
 use lib.Dec.{leb, ltb, eqb}
 use Rattle.seq.specs.Seq.{pick}
 use Rattle.items.specs.declared.Item.{Item}
-use Rattle.items.specs.declared.Items.{Items}
 use Rattle.items.specs.declared.Got.{Got}
 use Rattle.items.specs.declared.Got.the-variants.{One, Cut}
 use Rattle.items.specs.Items.{itemAt, walkFrom, afterItem}

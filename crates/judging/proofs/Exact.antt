@@ -1,8 +1,8 @@
 -- The refusal is exact: tests that tell their conditions give the lowest number whose condition holds, and none without it. Assumes nothing.
-use Prim.Native.Nat.{ℕ, _<_, _≤_}
+use Prim.Native.Nat.{ℕ, _<_}
 use native.Mathlib.Omega.{arith}
 use borrow.Author.Tests.{ltb-true, ltb-false}
-use mathlib.Core.Path.{_≡_, refl, sym, _∙_}
+use mathlib.Core.Path.{_≡_, refl, sym}
 use mathlib.Core.List.{List, [], _∷_}
 use mathlib.Core.Bool.{Bool, true, false, not}
 use mathlib.Core.Logic.{_⊎_, inl, inr}
@@ -11,10 +11,9 @@ use Rattle.seq.specs.Seq.{pick}
 use Rattle.seq.proofs.Laws.{true-false}
 use Rattle.table.specs.Table.{clockOf}
 use Rattle.ranges.specs.Ranges.{timeBound}
-use Rattle.well_formed.specs.WellFormed.{Fitting, fitting}
+use Rattle.well_formed.specs.WellFormed.{fitting}
 use Rattle.well_formed.proofs.Meaning.{to-fitting, from-fitting}
 use Rattle.judging.specs.Judging.{Test, lowest, Condition, Lowest, lateOf, unfit, Unfit, tooLate, Late}
-use Rattle.judging.specs.declared.Judged.the-variants.{Accept}
 
 -- a test tells its condition, both ways, and both have one number
 abbrev pub Tells : Test → Condition → Type 0

@@ -1,8 +1,8 @@
 -- What an accepted call knows: none of its tests holds, its table is well formed, its time is in range. Assumes nothing.
 use Prim.Native.Nat.{ℕ, _+_, _*_, _≤_, _<_}
 use native.Mathlib.Omega.{arith}
-use borrow.Author.Tests.{ltb-true, ltb-false}
-use mathlib.Core.Path.{_≡_, refl, sym, _∙_}
+use borrow.Author.Tests.{ltb-false}
+use mathlib.Core.Path.{_≡_, refl, sym}
 use mathlib.Core.List.{List, [], _∷_}
 use mathlib.Core.Bool.{Bool, true, false, not}
 use lib.Dec.{ltb}
@@ -10,7 +10,7 @@ use lib.ListN.{length}
 use Rattle.seq.specs.Seq.{pick}
 use Rattle.seq.proofs.Laws.{true-false}
 use Rattle.table.specs.Table.{headerSize, recordSize, base, count, clockOf}
-use Rattle.ranges.specs.Ranges.{timeBound, recordsBound}
+use Rattle.ranges.specs.Ranges.{timeBound}
 use Rattle.well_formed.specs.WellFormed.{WellFormed, Fitting, fitting}
 use Rattle.well_formed.proofs.Meaning.{to-fitting}
 use Rattle.judging.specs.Judging.{Test, lowest, lateOf}

@@ -1,6 +1,5 @@
 -- A name is read back from its role, peer and TID; and whether a name lives is whether some live record is called so. Assumes nothing.
 use Prim.Native.Nat.{ℕ, _<_}
-use native.Mathlib.Omega.{arith}
 use mathlib.Core.Path.{_≡_, refl, sym, ap, _∙_}
 use mathlib.Core.Bool.{true, false}
 use mathlib.Core.List.{List}
@@ -8,13 +7,10 @@ use lib.Dec.{eqb}
 use borrow.Author.Tests.{eqb-true, eq-eqb}
 use Rattle.seq.specs.Seq.{pick}
 use Rattle.seq.proofs.Laws.{true-false, both, both-fst, both-snd, not-so}
-use Rattle.record.specs.Record.{roleNumber, stateNumber}
+use Rattle.record.specs.Record.{roleNumber}
 use Rattle.record.specs.declared.Role.{Role}
 use Rattle.record.specs.declared.Role.the-variants.{Initiator, Responder}
-use Rattle.record.specs.declared.State.the-variants.{Free}
-use Rattle.record.specs.declared.Record.{Record}
 use Rattle.table.specs.Table.{count, recordAt}
-use Rattle.record_ok.specs.OneRecord.{Live}
 use Rattle.finding.specs.Finding.{isFound, namedOf}
 use Rattle.finding.specs.declared.Found.{Found}
 use Rattle.finding.specs.declared.Found.the-variants.{At, Nothing}

@@ -1,14 +1,12 @@
 -- A step shows what its row indicates: never an abort and a result, and a result exactly where a Result is taken. Assumes nothing.
 use Prim.Native.Nat.{ℕ}
-use mathlib.Core.Path.{_≡_, refl, sym, ap, _∙_}
+use mathlib.Core.Path.{_≡_, refl, _∙_}
 use mathlib.Core.List.{List}
-use mathlib.Core.Bool.{Bool, true, false, _&&_, _||_}
-use Rattle.record.specs.declared.Record.{Record}
-use Rattle.table.specs.Table.{settingsOf, rowsOf, recordAt}
+use mathlib.Core.Bool.{false, _&&_, _||_}
+use Rattle.table.specs.Table.{settingsOf, recordAt}
 use Rattle.events.specs.declared.Event.{Event}
 use Rattle.events.specs.declared.Opening.{Opening}
 use Rattle.conditions.specs.Conditions.{conditionsOf}
-use Rattle.acts.specs.Acts.{actOf, openingAct}
 use Rattle.columns.specs.declared.Indication.{Indication}
 use Rattle.columns.specs.declared.Indication.the-variants as Indication
 use Rattle.columns.specs.declared.Act.{Act}
@@ -21,7 +19,6 @@ use Rattle.commit.specs.declared.Header.{Header}
 use Rattle.commit.specs.declared.Changes.{Changes}
 use Rattle.shown.specs.Shows.{shownOf}
 use Rattle.shown.specs.declared.Context.{Context}
-use Rattle.shown.proofs.OwnKind.{kind-kept}
 use Rattle.steps.specs.Steps.{stepOf, idleStep}
 use Rattle.steps.specs.declared.Holder.{Holder}
 use Rattle.steps.specs.declared.Call.{Call}

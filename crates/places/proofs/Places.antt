@@ -3,8 +3,7 @@ use Prim.Native.Nat.{ℕ, _+_, _≤_, _<_}
 use native.Mathlib.Omega.{arith}
 use mathlib.Core.Path.{_≡_, refl}
 use mathlib.Core.List.{List}
-use mathlib.Core.Logic.{_⊎_, inl, inr}
-use lib.ListN.{length}
+use mathlib.Core.Logic.{inl, inr}
 use Rattle.record.specs.declared.Role.{Role}
 use Rattle.record.specs.Record.{stateNumber}
 use Rattle.record.specs.declared.State.{State}
@@ -17,7 +16,6 @@ use Rattle.well_formed.specs.WellFormed.{WellFormed}
 use Rattle.finding.specs.Finding.{namedOf, freeOf, dueOf}
 use Rattle.finding.specs.declared.Found.{Found}
 use Rattle.finding.specs.declared.Found.the-variants.{At, Nothing}
-use Rattle.finding.proofs.Tests.{Called}
 use Rattle.finding.proofs.Meaning.{named-found, free-found}
 use Rattle.finding.proofs.Earliest.{due-found}
 use Rattle.opens.specs.Opens.{placeFor}

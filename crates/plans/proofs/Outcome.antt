@@ -1,18 +1,15 @@
 -- What any sound plan leaves: a refusal nothing else, a step a well-formed table and all but what it names. Assumes nothing.
-use Prim.Native.Nat.{ℕ, _+_, _*_, _≤_, _<_}
-use native.Mathlib.Omega.{arith}
-use mathlib.Core.Path.{_≡_, refl, sym, ap, _∙_}
+use Prim.Native.Nat.{ℕ, _*_}
+use mathlib.Core.Path.{_≡_, refl}
 use mathlib.Core.List.{List}
 use mathlib.Core.Bool.{Bool, true, false}
-use mathlib.Core.Logic.{_⊎_, inl, inr}
+use mathlib.Core.Logic.{inl, inr}
 use lib.ListN.{length, getD}
 use Rattle.seq.specs.Seq.{put, part}
 use Rattle.seq.proofs.Laws.{length-put, length-part}
 use Rattle.octets.proofs.Laws.{getD-before, getD-after}
 use Rattle.numbers.specs.declared.Refusal.{Refusal}
-use Rattle.table.specs.Table.{count}
 use Rattle.ranges.specs.Ranges.{cellSize}
-use Rattle.well_formed.specs.WellFormed.{WellFormed, Fitting}
 use Rattle.commit.proofs.Length.{length-after}
 use Rattle.commit_laws.proofs.Keeps.{commit-keeps}
 use Rattle.commit_laws.proofs.Frame.{commit-frames}
@@ -20,7 +17,7 @@ use Rattle.steps.specs.declared.Part.{Part}
 use Rattle.steps.specs.declared.Step.{Step}
 use Rattle.steps.specs.declared.Plan.{Plan}
 use Rattle.steps.specs.declared.Plan.the-variants.{Refuse, Go}
-use Rattle.carry.specs.Carry.{Lent, Done, CellFits, cellWritten, tableThen, storeThen, sentThen, carriedOut, outcome}
+use Rattle.carry.specs.Carry.{Lent, CellFits, cellWritten, tableThen, storeThen, sentThen, carriedOut, outcome}
 use Rattle.carry.proofs.Refused.{output-after}
 use Rattle.sound.specs.Sound.{Fits, Sound}
 use Rattle.plans.specs.Plans.{PlanSound, Untouched, OutsideMessage, Kept, StillFits}

@@ -1,10 +1,7 @@
 -- The step of a user's answer, result or abort is sound. Assumes nothing.
-use Prim.Native.Nat.{ℕ, _≤_}
 use native.Mathlib.Omega.{arith}
 use mathlib.Core.Path.{_≡_, refl}
-use mathlib.Core.List.{List}
 use lib.ListN.{length}
-use Rattle.ranges.specs.Ranges.{exitBound}
 use Rattle.steps.specs.declared.Plan.{Plan}
 use Rattle.steps.specs.declared.Plan.the-variants.{Refuse, Go}
 use Rattle.steps.specs.declared.Step.{Step}

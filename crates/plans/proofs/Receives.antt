@@ -1,5 +1,5 @@
 -- A received PDU's step is sound. Assumes nothing.
-use Prim.Native.Nat.{ℕ, _+_, _≤_, _<_}
+use Prim.Native.Nat.{ℕ, _≤_}
 use native.Mathlib.Omega.{arith}
 use mathlib.Core.Path.{_≡_, refl, sym, ap, _∙_}
 use mathlib.Core.List.{List}
@@ -9,34 +9,28 @@ use lib.ListN.{length}
 use lib.Dec.{eqb}
 use Rattle.seq.specs.Seq.{pick}
 use Rattle.seq.proofs.Laws.{true-false}
-use Rattle.record.specs.Record.{roleOf, stateNumber}
+use Rattle.record.specs.Record.{stateNumber}
 use Rattle.record.specs.declared.State.{State}
 use Rattle.record.specs.declared.State.the-variants.{Free}
 use Rattle.record.specs.declared.Role.{Role}
-use Rattle.record.specs.declared.Role.the-variants.{Initiator, Responder}
+use Rattle.record.specs.declared.Role.the-variants.{Responder}
 use Rattle.record.specs.declared.Record.{Record}
 use Rattle.pdu.specs.declared.Pdu.{Pdu}
 use Rattle.reader.specs.Read.{pduOf}
 use Rattle.table.specs.Table.{count, recordAt, settingsOf, rowsOf}
 use Rattle.ranges.specs.Ranges.{exitBound}
-use Rattle.record_ok.specs.OneRecord.{Live}
-use Rattle.names_ok.specs.Names.{SameName}
-use Rattle.well_formed.specs.WellFormed.{WellFormed}
 use Rattle.kept.specs.Kept.{Unused}
 use Rattle.finding.specs.Finding.{freeOf}
-use Rattle.finding.proofs.Tests.{Called}
 use Rattle.events.specs.declared.Opening.{Opening}
 use Rattle.events.specs.declared.Opening.the-variants as Opening
 use Rattle.rows.specs.Rows.{openingOf, invoke0Of, invoke12Of}
 use Rattle.rows.specs.declared.Arrived.{Arrived}
-use Rattle.arrivals.specs.Arrivals.{tidOf, nameOf, eventOf, arrivedOf}
+use Rattle.arrivals.specs.Arrivals.{tidOf, nameOf, eventOf}
 use Rattle.arrivals.specs.declared.Name.{Name}
 use Rattle.arrivals.specs.declared.Name.the-variants.{Nobody, Of}
 use Rattle.acts.specs.Acts.{openingAct}
 use Rattle.columns.specs.Columns.{actWith, stored, shown}
-use Rattle.columns.specs.declared.Next.{Next}
 use Rattle.columns.specs.declared.Next.the-variants.{Ends}
-use Rattle.columns.specs.declared.Act.{Act}
 use Rattle.turns.specs.Turns.{newRecord, recordAfter, turnOf, openingTurn}
 use Rattle.turns.specs.declared.Given.{Given}
 use Rattle.commit.specs.declared.Header.the-variants.{Kept}
@@ -57,7 +51,7 @@ use Rattle.carry.specs.Carry.{Lent}
 use Rattle.sound.specs.Sound.{Sound}
 use Rattle.sound.proofs.Steps.{live-sound, opening-sound, idle-sound}
 use Rattle.plans.specs.Plans.{PlanSound}
-use Rattle.plans.proofs.Openings.{openedRole, OpenedAs, opened-as}
+use Rattle.plans.proofs.Openings.{openedRole, opened-as}
 
 -- what is said of two is said of the one that is picked
 pub picked : (P : Opening → Type 0) (b : Bool) (x y : Opening) → P x → P y → P (pick b x y)

@@ -1,13 +1,12 @@
 -- A request's step is sound. Assumes nothing.
-use Prim.Native.Nat.{ℕ, _+_, _%_, _≤_, _<_}
+use Prim.Native.Nat.{ℕ, _%_, _≤_, _<_}
 use native.Mathlib.Omega.{arith}
-use mathlib.Core.Path.{_≡_, refl, sym, ap, _∙_}
-use mathlib.Core.List.{List}
+use mathlib.Core.Path.{_≡_, refl, _∙_}
 use mathlib.Core.Bool.{Bool, true, false}
 use lib.ListN.{length}
 use lib.Dec.{eqb}
 use Rattle.seq.specs.Seq.{pick}
-use Rattle.record.specs.Record.{roleOf, stateNumber}
+use Rattle.record.specs.Record.{stateNumber}
 use Rattle.record.specs.declared.Role.the-variants.{Initiator}
 use Rattle.record.specs.declared.Record.{Record}
 use Rattle.table.specs.Table.{count, genTidOf, settingsOf, rowsOf}
@@ -22,18 +21,17 @@ use Rattle.turns.specs.Turns.{newRecord}
 use Rattle.commit.specs.declared.Header.the-variants.{Set}
 use Rattle.commit_laws.specs.Allowed.{SetOk}
 use Rattle.opens.specs.Opens.{openedTurn}
-use Rattle.steps.specs.declared.Step.{Step}
 use Rattle.steps.specs.declared.Plan.{Plan}
 use Rattle.steps.specs.declared.Plan.the-variants.{Refuse, Go}
 use Rattle.requests.specs.Requests.{requester, requestGiven, requestCall, requestStep, requestPlan}
 use Rattle.requests.specs.declared.Request.{Request}
 use Rattle.requests.proofs.Accepted.{placeOf, Admitted, Accepted, request-accepted, name-unused}
 use Rattle.carry.specs.Carry.{Lent}
-use Rattle.sound.specs.Sound.{Fits, LentOk, GivenOk, Sound}
+use Rattle.sound.specs.Sound.{Sound}
 use Rattle.sound.proofs.Sends.{class-fits}
 use Rattle.sound.proofs.Steps.{opening-sound}
 use Rattle.plans.specs.Plans.{PlanSound}
-use Rattle.plans.proofs.Openings.{openedRole, OpenedAs, opened-as}
+use Rattle.plans.proofs.Openings.{openedRole, opened-as}
 
 -- a request's row is one of three, each an initiator's
 requested-role : (class : ℕ) → openedRole (requestedOf class) ≡ Initiator

@@ -1,5 +1,5 @@
 -- The fixed header and the items end within the PDU. Assumes nothing.
-use Prim.Native.Nat.{ℕ, _+_, _<_, _≤_}
+use Prim.Native.Nat.{ℕ, _+_, _≤_}
 use native.Mathlib.Omega.{arith}
 use borrow.Author.Tests.{ltb-false}
 use mathlib.Core.Path.{_≡_, refl}
@@ -9,7 +9,7 @@ use lib.ListN.{length, getD, replicate}
 use lib.Dec.{ltb, eqb}
 use Rattle.seq.specs.Seq.{pick}
 use Rattle.numbers.specs.declared.Malformed.the-variants.{D1, D2}
-use Rattle.items.specs.Items.{walkFrom, noItem}
+use Rattle.items.specs.Items.{noItem}
 use Rattle.items.proofs.Forms.{walk-inside}
 use Rattle.reader.specs.declared.Head.{Head}
 use Rattle.reader.specs.Read.{typeOf, badHead, goodHead, longHead, headOf, itemsAfter}

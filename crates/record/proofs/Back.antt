@@ -1,13 +1,13 @@
 -- What is encoded is decoded as it was, and the octet of a state names it. Assumes nothing.
-use mathlib.Core.Path.{_≡_, refl, ap, _∙_}
+use mathlib.Core.Path.{_≡_, refl}
 use mathlib.Core.Bool.{Bool, true, false}
-use Prim.Native.Nat.{ℕ, _+_, _*_, _/_, _%_, _^_, _≤_, _<_}
+use Prim.Native.Nat.{ℕ, _+_, _*_, _/_, _%_, _^_, _<_}
 use native.Mathlib.Omega.{arith}
 use lib.ListN.{length}
 use lib.Dec.{eqb}
 use Rattle.seq.specs.Seq.{bit}
 use Rattle.seq.proofs.Laws.{bit-le}
-use Rattle.octets.specs.Octets.{num, enc, gets}
+use Rattle.octets.specs.Octets.{enc, gets}
 use Rattle.octets.proofs.Laws.{num-enc}
 use Rattle.record.specs.Record.{stateNumber, stateOf, flagsOf, decoded, octetsOf}
 use Rattle.record.specs.declared.State.{State}

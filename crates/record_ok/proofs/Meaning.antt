@@ -16,7 +16,7 @@ use Rattle.table.specs.Table.{recordSize, base, spareBase, recordAt}
 use Rattle.table.specs.declared.Settings.{Settings}
 use Rattle.ranges.proofs.Tests.{Each, each, all}
 use Rattle.ranges.proofs.Zeros.{zeros-to, zeros-from}
-use Rattle.record_ok.specs.OneRecord.{Live, Bounded, InRange, LiveOk, FreeOk, RecordOk, rangeTests, inRange, liveTests, liveOk, recordOk, spareSize}
+use Rattle.record_ok.specs.OneRecord.{Live, Bounded, LiveOk, FreeOk, RecordOk, rangeTests, inRange, liveTests, liveOk, recordOk, spareSize}
 use Rattle.record_ok.proofs.States.{octet-known, octet-live}
 
 bounds-to : (s : Settings) (r : Record) → inRange s r ≡ true → Bounded s r

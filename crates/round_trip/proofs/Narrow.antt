@@ -1,7 +1,7 @@
 -- The kind of a PDU that was read from octets holds octets. Assumes nothing.
 use Prim.Native.Nat.{ℕ, _+_, _-_, _/_, _%_, _≤_, _<_}
 use native.Mathlib.Omega.{arith}
-use mathlib.Core.Path.{_≡_, refl, sym}
+use mathlib.Core.Path.{_≡_, sym}
 use mathlib.Core.List.{List}
 use mathlib.Core.Logic.{_⊎_, inl, inr}
 use mathlib.Core.Bool.{Bool, true, false}
@@ -11,7 +11,6 @@ use Rattle.seq.specs.Seq.{pick}
 use Rattle.seq.proofs.Laws.{true-false, lt-or-le}
 use Rattle.numbers.specs.declared.Malformed.{Malformed}
 use Rattle.numbers.specs.declared.Malformed.the-variants.{D1, D2, D5, D6, D7}
-use Rattle.numbers.specs.declared.Refusal.{Refusal}
 use Rattle.numbers.specs.declared.Refusal.the-variants.{WrongLength}
 use Rattle.numbers.specs.declared.Verdict.{Verdict}
 use Rattle.numbers.specs.declared.Verdict.the-variants.{Sound, Bad}
@@ -19,7 +18,6 @@ use Rattle.items.specs.declared.Items.{Items}
 use Rattle.pdu.specs.Pdu.{soundOf, bareOf, blankPdu}
 use Rattle.pdu.specs.declared.Kind.{Kind}
 use Rattle.pdu.specs.declared.Kind.the-variants.{Invoke, Result, Ack, Abort, SegInvoke, SegResult, Nack, Wrong, Refused}
-use Rattle.pdu.specs.declared.Pdu.{Pdu}
 use Rattle.reader.specs.declared.Head.{Head}
 use Rattle.reader.specs.Read.{flag, lowest, kindOf, typeOf, badHead, goodHead, headOf, whole, finishBy, finished, itemsAfter, afterHead, pduOf}
 use Rattle.said.specs.Said.{NarrowKind}

@@ -4,7 +4,7 @@ use native.Mathlib.Omega.{arith}
 use borrow.Author.Tests.{le-ltb}
 use mathlib.Core.Path.{_≡_, refl, sym, ap, _∙_}
 use mathlib.Core.List.{List, _++_}
-use mathlib.Core.Bool.{true, false}
+use mathlib.Core.Bool.{true}
 use mathlib.Core.Logic.{_⊎_, inl, inr}
 use lib.ListN.{length, getD, replicate, getD-replicate, length-append}
 use lib.Seq.{getD-append-add, length-take-le}
@@ -20,12 +20,11 @@ use Rattle.reader.specs.Read.{pduOf}
 use Rattle.writer.specs.Write.{itemsOf, octetsOf}
 use Rattle.words.specs.Words.{wordsOf}
 use Rattle.said.proofs.Stored.{length-words}
-use Rattle.order.specs.Order.{InOrder}
 use Rattle.order.proofs.Order.{first-that-holds}
-use Rattle.judge.specs.Judge.{judgedOf, AsRead}
+use Rattle.judge.specs.Judge.{AsRead}
 use Rattle.judge.proofs.Again.{again}
 use Rattle.write.specs.Writing.{planOf, answerOf, writtenAnswer, outputAfter}
-use Rattle.writes_back.specs.WritesBack.{cleared, Octets, Readable}
+use Rattle.writes_back.specs.WritesBack.{Octets, Readable}
 use Rattle.writes_back.proofs.Back.{writes-back, read-fits}
 use Rattle.codec_calls.specs.Calls.{writtenNumber, writeNumber, writeOutput}
 use Rattle.round_trip.specs.RoundTrip.{RoundTrip}

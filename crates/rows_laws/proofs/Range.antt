@@ -32,7 +32,7 @@ use Rattle.columns.specs.declared.ExitInfo.the-variants as ExitInfo
 use Rattle.columns.specs.declared.Act.{Act}
 use Rattle.acts.specs.Acts.{actOf, openingAct}
 use Rattle.tids.specs.Tids.{intervalOf}
-use Rattle.ranges.specs.Ranges.{peers, timeBound, intervalBound, deadlineBound, tidBound, exitBound, cellSize}
+use Rattle.ranges.specs.Ranges.{peers, intervalBound, deadlineBound, tidBound, exitBound, cellSize}
 use Rattle.turns.specs.Turns.{upOf, rcrAfter, aecAfter, exitLenAfter, lenAfter, deadlineAfter, newRecord, movedTo, recordAfter, turnOf, rowTurn, openingTurn}
 use Rattle.turns.specs.declared.Given.{Given}
 use Rattle.rows_laws.specs.Shown.{actAt}

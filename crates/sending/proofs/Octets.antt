@@ -6,7 +6,7 @@ use mathlib.Core.List.{List, [], _∷_, _++_, append-nil}
 use mathlib.Core.Bool.{Bool, true, false}
 use lib.ListN.{length}
 use lib.Dec.{ltb, eqb}
-use Rattle.seq.specs.Seq.{pick, bit, part}
+use Rattle.seq.specs.Seq.{pick, bit}
 use Rattle.seq.proofs.Laws.{length-part}
 use Rattle.record.specs.Record.{sendTid}
 use Rattle.writer.specs.Write.{typeNumber, flagsOf, extraOf, headerOf, formOf, itemOctets, itemsOctets, octetsOf}

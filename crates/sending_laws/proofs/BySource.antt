@@ -1,5 +1,5 @@
 -- Where the parts lie in the source that is named, what is sent is written and read back. Assumes nothing.
-use Prim.Native.Nat.{ℕ, _≤_}
+use Prim.Native.Nat.{ℕ}
 use mathlib.Core.List.{List}
 use mathlib.Core.Bool.{true, false}
 use Rattle.columns.specs.declared.Send.{Send}

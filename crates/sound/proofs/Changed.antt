@@ -2,10 +2,10 @@
 use Prim.Native.Nat.{ℕ, _+_, _≤_, _<_}
 use native.Mathlib.Omega.{arith}
 use borrow.Author.Tests.{eqb-false}
-use mathlib.Core.Path.{_≡_, refl, sym, ap, _∙_}
+use mathlib.Core.Path.{_≡_, refl, sym, ap}
 use mathlib.Core.List.{List}
 use mathlib.Core.Bool.{Bool, true, false}
-use mathlib.Core.Logic.{_⊎_, inl, inr}
+use mathlib.Core.Logic.{inl, inr}
 use lib.ListN.{length}
 use lib.Dec.{eqb}
 use Rattle.seq.specs.Seq.{pick}
@@ -13,9 +13,8 @@ use Rattle.record.specs.Record.{stateNumber}
 use Rattle.record.specs.declared.Record.{Record}
 use Rattle.table.specs.Table.{count, settingsOf, rowsOf, cachedOf, recordAt}
 use Rattle.ranges.specs.Ranges.{timeBound, tidBound, exitBound, peers}
-use Rattle.header_ok.specs.Header.{HeaderOk, cachedBound}
-use Rattle.record_ok.specs.OneRecord.{Live, Bounded, InRange}
-use Rattle.names_ok.specs.Names.{SameName}
+use Rattle.header_ok.specs.Header.{cachedBound}
+use Rattle.record_ok.specs.OneRecord.{Bounded}
 use Rattle.well_formed.specs.WellFormed.{WellFormed}
 use Rattle.kept.specs.Kept.{Unused}
 use Rattle.kept.proofs.Keeps.{own-name}
@@ -24,10 +23,10 @@ use Rattle.events.specs.declared.Opening.{Opening}
 use Rattle.columns.specs.declared.Cache.{Cache}
 use Rattle.columns.specs.declared.Cache.the-variants as Cache
 use Rattle.rows_laws.specs.Range.{Within}
-use Rattle.rows_laws.specs.Transaction.{SameTransaction, FreedOrSame}
+use Rattle.rows_laws.specs.Transaction.{FreedOrSame}
 use Rattle.rows_laws.proofs.Range.{new-in-range, turn-in-range, opening-in-range}
 use Rattle.rows_laws.proofs.Transaction.{turn-keeps}
-use Rattle.turns.specs.Turns.{newRecord, turnOf, openingTurn}
+use Rattle.turns.specs.Turns.{newRecord}
 use Rattle.turns.specs.declared.Given.{Given}
 use Rattle.commit.specs.declared.Change.the-variants as Change
 use Rattle.commit.specs.declared.Header.{Header}

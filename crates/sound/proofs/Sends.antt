@@ -1,25 +1,22 @@
 -- The parts of what a step sends lie where it says. Assumes nothing.
-use Prim.Native.Nat.{ℕ, _+_, _*_, _≤_, _<_}
+use Prim.Native.Nat.{ℕ, _≤_, _<_}
 use native.Mathlib.Omega.{arith}
-use mathlib.Core.Path.{_≡_, refl, sym, ap, _∙_}
-use mathlib.Core.List.{List}
-use mathlib.Core.Bool.{Bool, true, false}
-use lib.ListN.{length}
+use mathlib.Core.Path.{_≡_, refl}
+use mathlib.Core.Bool.{false}
 use Rattle.seq.proofs.Laws.{true-false}
-use Rattle.table.specs.Table.{base, exitBase, count}
+use Rattle.table.specs.Table.{exitBase, count}
 use Rattle.ranges.specs.Ranges.{cellSize, exitBound}
 use Rattle.columns.specs.declared.Send.{Send}
 use Rattle.columns.specs.declared.Send.the-variants.{Nothing, Invoke, Tidok, LastAck, HoldOn, Tidve, Result, Abort}
 use Rattle.turns.specs.declared.Turn.{Turn}
 use Rattle.rows_laws.specs.Shown.{SendProper}
 use Rattle.sending.specs.Sending.{sourceOf}
-use Rattle.sending.specs.Octets.{FitSend}
 use Rattle.sending.specs.declared.Sender.{Sender}
 use Rattle.sending.specs.declared.Source.{Source}
 use Rattle.sending.specs.declared.Source.the-variants as Source
 use Rattle.sending_laws.specs.SendingLaws.{FitSource, Proper, ClassFits}
 use Rattle.sending_laws.proofs.BySource.{by-source}
-use Rattle.steps.specs.Steps.{noPart, cellOf, messageFrom, messageOf, senderOf}
+use Rattle.steps.specs.Steps.{cellOf, messageFrom, messageOf, senderOf}
 use Rattle.steps.specs.declared.Holder.{Holder}
 use Rattle.steps.specs.declared.Call.{Call}
 use Rattle.carry.specs.Carry.{Lent, isNothing, sliceOf, FitOut}

@@ -1,7 +1,7 @@
 -- The step of a live record, of an opening, and of a call that does nothing is sound. Assumes nothing.
-use Prim.Native.Nat.{ℕ, _+_, _*_, _≤_, _<_}
+use Prim.Native.Nat.{ℕ, _≤_, _<_}
 use native.Mathlib.Omega.{arith}
-use mathlib.Core.Path.{_≡_, refl, sym, ap, _∙_}
+use mathlib.Core.Path.{_≡_, refl}
 use mathlib.Core.List.{List}
 use mathlib.Core.Bool.{Bool, true, false}
 use lib.ListN.{length}
@@ -9,14 +9,12 @@ use Rattle.seq.proofs.Laws.{true-false}
 use Rattle.record.specs.Record.{classOf, stateNumber}
 use Rattle.record.specs.declared.State.{State}
 use Rattle.record.specs.declared.State.the-variants as State
-use Rattle.table.specs.Table.{base, recordSize, count, recordAt, cachedOf, settingsOf, rowsOf}
+use Rattle.table.specs.Table.{count, recordAt}
 use Rattle.ranges.specs.Ranges.{timeBound, tidBound, cellSize, exitBound, peers}
-use Rattle.well_formed.specs.WellFormed.{WellFormed}
 use Rattle.kept.specs.Kept.{Unused}
 use Rattle.events.specs.declared.Event.{Event}
 use Rattle.events.specs.declared.Opening.{Opening}
 use Rattle.acts.specs.Acts.{openingAct}
-use Rattle.columns.specs.declared.Send.the-variants as Send
 use Rattle.rows_laws.specs.Shown.{SendProper}
 use Rattle.rows_laws.proofs.Rows.{proper, proper-opening}
 use Rattle.turns.specs.Turns.{turnOf, rowTurn, openingTurn}
@@ -28,13 +26,12 @@ use Rattle.commit_laws.specs.Allowed.{SetOk, Allowed}
 use Rattle.changes.specs.Changes.{turnChanges}
 use Rattle.sending_laws.specs.SendingLaws.{ClassFits}
 use Rattle.steps.specs.Steps.{stepOf, idleChanges, idleStep}
-use Rattle.steps.specs.declared.Part.{Part}
 use Rattle.steps.specs.declared.Holder.{Holder}
 use Rattle.steps.specs.declared.Call.{Call}
 use Rattle.turning.specs.Turning.{rowAt, holderOf, liveTurn, liveStep}
 use Rattle.opens.specs.Opens.{openedTurn, openingChanges, openingStep}
 use Rattle.places.proofs.Places.{LiveAt, live-range}
-use Rattle.carry.specs.Carry.{Lent, CellFits, FitOut, Ready}
+use Rattle.carry.specs.Carry.{Lent, CellFits, FitOut}
 use Rattle.sound.specs.Sound.{Fits, LentOk, GivenOk, Sound}
 use Rattle.sound.proofs.Sends.{class-fits, sends-fit}
 use Rattle.sound.proofs.Changed.{live-allowed, turn-bounded, opening-allowed, opened-bounded, idle-allowed}

@@ -1,24 +1,18 @@
 -- 01: "TIDve 1C 80 05 unmatched gives 20 00 05 02", whatever the table, the time and the peer. Assumes nothing.
-use Prim.Native.Nat.{ℕ, _/_, _%_}
+use Prim.Native.Nat.{ℕ}
 use mathlib.Core.Path.{_≡_, refl}
 use mathlib.Core.List.{List, [], _∷_}
 use lib.ListN.{length}
 use Rattle.record.specs.declared.Role.the-variants.{Initiator}
-use Rattle.table.specs.Table.{count}
-use Rattle.finding.specs.Finding.{namedOf}
-use Rattle.finding.specs.declared.Found.the-variants.{Nothing}
 use Rattle.arrivals.specs.Arrivals as Arrivals
 use Rattle.columns.specs.declared.Send.{Send}
 use Rattle.columns.specs.declared.Send.the-variants as Send
-use Rattle.sending.specs.Sending.{tidOf, sourceOf}
+use Rattle.sending.specs.Sending.{tidOf}
 use Rattle.sending.specs.Octets.{octetsSent}
 use Rattle.sending.specs.declared.Sender.{Sender}
-use Rattle.steps.specs.declared.Step.{Step}
-use Rattle.steps.specs.declared.Plan.the-variants.{Go}
-use Rattle.receives.specs.Receives.{receiveStep, receivePlan}
 use Rattle.receives.proofs.Accepted.{receive-accepted}
 use Rattle.receives.proofs.Answered.{OnlySends, tidve-unmatched}
-use Rattle.carry.specs.Carry.{Lent, octetsOut, sentThen}
+use Rattle.carry.specs.Carry.{octetsOut, sentThen}
 use Rattle.starred.specs.Starred.{Says, unmatched}
 
 abbrev tidve : List ℕ

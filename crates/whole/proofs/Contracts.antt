@@ -8,7 +8,7 @@ use borrow.Fn.Kinds.{endedOf}
 use borrow.Fn.World.{ArgsD, ResD}
 use Rattle.carry.specs.Carry.{lent, done}
 use Rattle.calls_laws.specs.Promise.{Call}
-use Rattle.history.specs.Trace.{Entry, Promise}
+use Rattle.history.specs.Trace.{Promise}
 use Rattle.calls.proofs.request as request
 use Rattle.calls.proofs.request.Reads as request-reads
 use Rattle.calls.proofs.request.Kinds as request-kinds

@@ -1,16 +1,16 @@
 -- The octets of an item by its form, and of the items from one on. Assumes nothing.
-use Prim.Native.Nat.{ℕ, zero, suc, _+_, _-_, _*_, _<_, _≤_}
+use Prim.Native.Nat.{ℕ, suc, _+_, _-_, _*_, _<_, _≤_}
 use native.Mathlib.Omega.{arith}
 use native.Mathlib.Numerals.{add-one}
 use borrow.Author.Tests.{ltb-true, ltb-false}
-use mathlib.Core.Path.{_≡_, refl, sym, ap, _∙_}
+use mathlib.Core.Path.{_≡_, refl, ap, _∙_}
 use mathlib.Core.List.{List, [], _∷_, _++_}
 use mathlib.Core.Bool.{Bool, true, false}
 use lib.ListN.{length, take, drop, getD, length-append}
 use lib.Seq.{drop-cons}
 use lib.Dec.{ltb}
-use Rattle.seq.specs.Seq.{bit, part, put}
-use Rattle.seq.proofs.Laws.{length-part, put-append}
+use Rattle.seq.specs.Seq.{bit, part}
+use Rattle.seq.proofs.Laws.{length-part}
 use Rattle.items.specs.declared.Item.{Item}
 use Rattle.writer.specs.Write.{itemOctets, itemsOctets, followed, longest, FitItem, FitItems}
 

@@ -1,8 +1,7 @@
 -- What stands after the TID of a Nack, as it is stored: the count, then the list. Assumes nothing.
 use Prim.Native.Nat.{ℕ, suc, _+_, _≤_}
-use native.Mathlib.Omega.{arith}
 use mathlib.Core.Path.{_≡_, refl, ap}
-use mathlib.Core.List.{List, [], _∷_}
+use mathlib.Core.List.{List}
 use mathlib.Core.Bool.{Bool}
 use lib.ListN.{length, set}
 use Rattle.seq.specs.Seq.{part, put}

@@ -22,107 +22,13 @@ abbrev info-from-below : ℕ → In 0 info-from-kinds.ps
 info-from-below t =
     and 0 info-from-kinds.ps (falls 0 info-from-kinds.ps _<_ μ-info-from t) info-from.Pre
 
--- src/lib.rt:141:9
-info-from-returns :
-    (t : ℕ) →
-    info-from-lts.Need-returns (info-from-below t, info-from.Post) (info-from-at t) info-from.Post
-info-from-returns t c = sym (info-none _ _ _ (c .if1 .taken))
-
--- src/lib.rt:143:8
-info-from-mul-if2 :
-    (t : ℕ) →
-    info-from-lts.Need-mul-if2 (info-from-below t, info-from.Post) (info-from-at t) info-from.Post
-info-from-mul-if2 t c = search needs
-
--- src/lib.rt:143:8
-info-from-element-copy-out-if2 : (t : ℕ) → info-from-lts.Need-element-copy-out-if2 (
-  info-from-below t,
-  info-from.Post,
-) (info-from-at t) info-from.Post
-info-from-element-copy-out-if2 t c = search needs
-
--- src/lib.rt:145:20
-info-from-mul-t10 :
-    (t : ℕ) →
-    info-from-lts.Need-mul-t10 (info-from-below t, info-from.Post) (info-from-at t) info-from.Post
-info-from-mul-t10 t c = search needs
-
--- src/lib.rt:145:20
-info-from-element-copy-out-t13 : (t : ℕ) → info-from-lts.Need-element-copy-out-t13 (
-  info-from-below t,
-  info-from.Post,
-) (info-from-at t) info-from.Post
-info-from-element-copy-out-t13 t c = search needs
-
--- src/lib.rt:146:18
-info-from-mul-t14 :
-    (t : ℕ) →
-    info-from-lts.Need-mul-t14 (info-from-below t, info-from.Post) (info-from-at t) info-from.Post
-info-from-mul-t14 t c = search needs
-
--- src/lib.rt:146:18
-info-from-element-copy-out-t17 : (t : ℕ) → info-from-lts.Need-element-copy-out-t17 (
-  info-from-below t,
-  info-from.Post,
-) (info-from-at t) info-from.Post
-info-from-element-copy-out-t17 t c = search needs
-
--- src/lib.rt:144:9
-info-from-returns-2 :
-    (t : ℕ) →
-    info-from-lts.Need-returns-2
-    (info-from-below t, info-from.Post)
-    (info-from-at t)
-    info-from.Post
-info-from-returns-2 t c = sym (info-here _ _ _ (c .before .if1 .left) (c .if2 .taken))
-
--- src/lib.rt:149:21
-info-from-add-info-from : (t : ℕ) → info-from-lts.Need-add-info-from (
-  info-from-below t,
-  info-from.Post,
-) (info-from-at t) info-from.Post
-info-from-add-info-from t c = search needs
-
--- src/lib.rt:149:29
-info-from-sub-info-from : (t : ℕ) → info-from-lts.Need-sub-info-from (
-  info-from-below t,
-  info-from.Post,
-) (info-from-at t) info-from.Post
-info-from-sub-info-from t c = search needs
-
--- src/lib.rt:149:5
-info-from-info-from-requires : (t : ℕ) → info-from-lts.Need-info-from-requires (
-  info-from-below t,
-  info-from.Post,
-) (info-from-at t) info-from.Post
-info-from-info-from-requires t c κs = search needs
-
--- src/lib.rt:136:1
-info-from-returns-3 :
-    (t : ℕ) →
-    info-from-lts.Need-returns-3
-    (info-from-below t, info-from.Post)
-    (info-from-at t)
-    info-from.Post
-info-from-returns-3 t c = c .info-from .ensures ∙ sym (info-later _ _ _ (c .before .before .if1 .left) (c .before .if2 .left))
-
 pub +info-from-spec : {M : Type 1} → statement M
 +info-from-spec =
-    close
-    μ-info-from
-    λ t. info-from-lts.spec
-    (info-from-below t, info-from.Post)
-    (info-from-at t)
-    info-from.Post
-    (info-from-returns t)
-    (info-from-mul-if2 t)
-    (info-from-element-copy-out-if2 t)
-    (info-from-mul-t10 t)
-    (info-from-element-copy-out-t13 t)
-    (info-from-mul-t14 t)
-    (info-from-element-copy-out-t17 t)
-    (info-from-returns-2 t)
-    (info-from-add-info-from t)
-    (info-from-sub-info-from t)
-    (info-from-info-from-requires t)
-    (info-from-returns-3 t)
+    close μ-info-from λ t. info-from-lts.spec
+    (info-from-below t, info-from.Post) (info-from-at t) info-from.Post
+    (λ c. sym (info-none _ _ _ (c .if1 .taken)))
+    (λ c. search needs) (λ c. search needs) (λ c. search needs) (λ c. search needs) (λ c. search needs)
+    (λ c. search needs)
+    (λ c. sym (info-here _ _ _ (c .before .if1 .left) (c .if2 .taken)))
+    (λ c. search needs) (λ c. search needs) (λ c κs. search needs)
+    (λ c. c .info-from .ensures ∙ sym (info-later _ _ _ (c .before .before .if1 .left) (c .before .if2 .left)))

@@ -1,59 +1,17 @@
 -- `calls::receive` meets its contract: its plan is sound, and is carried out. Assumes nothing.
 use native.Mathlib.Omega.{arith}
-use mathlib.Core.Path.{refl}
 use Rattle.plans.proofs.Receives.{receive-sound}
 use Rattle.calls.specs.Calls.{received}
 use Rattle.calls.proofs.Carrying.{sound-ready}
 use borrow.Author.Needs.{needs}
 use Rattle.calls.proofs.receive.Statement.{statement}
 use Rattle.calls.proofs.receive.Tie as tie
-use Rattle.calls.proofs.receive.Reads as reads
-use Rattle.calls.proofs.receive.Lts as lts
-use Rattle.calls.proofs.carried.Reads as carried-reads
-use Rattle.receives.proofs.planned.Reads as planned-reads
-
--- src/lib.rt:165:9
-planned-requires : tie.Need-planned-requires
-planned-requires c κs = search needs
-
--- src/lib.rt:166:43
-array-share-prefix-none : tie.Need-array-share-prefix-none
-array-share-prefix-none c = search needs
-
--- src/lib.rt:166:43
-slice-aggregate-carried : tie.Need-slice-aggregate-carried
-slice-aggregate-carried c = search needs
-
--- src/lib.rt:166:5
-carried-requires : tie.Need-carried-requires
-carried-requires c κs = rw (c .before .before .before .before .planned .ensures) (sound-ready _ _ (receive-sound _ _ _ (omega arith)))
-
--- src/lib.rt:154:1
-same-length : tie.Need-same-length
-same-length c = search needs
-
--- src/lib.rt:154:1
-same-length-2 : tie.Need-same-length-2
-same-length-2 c = search needs
-
--- src/lib.rt:154:1
-same-length-3 : tie.Need-same-length-3
-same-length-3 c = search needs
-
--- src/lib.rt:154:1
-returns : tie.Need-returns
-unfolding received
-returns c = rw (← (c .before .before .before .before .before .before .before .before .before .before .before .planned .ensures)) (c .before .before .before .before .before .before .carried .ensures)
 
 pub receive-spec : {M : Type 1} → statement M
+unfolding received
 receive-spec =
-    tie.close
-    (tie.spec
-    planned-requires
-    array-share-prefix-none
-    slice-aggregate-carried
-    carried-requires
-    same-length
-    same-length-2
-    same-length-3
-    returns)
+    tie.close (tie.spec
+    (λ c κs. search needs) (λ c. search needs) (λ c. search needs)
+    (λ c κs. rw (c .before .before .before .before .planned .ensures) (sound-ready _ _ (receive-sound _ _ _ (omega arith))))
+    (λ c. search needs) (λ c. search needs) (λ c. search needs)
+    (λ c. rw (← (c .before .before .before .before .before .before .before .before .before .before .before .planned .ensures)) (c .before .before .before .before .before .before .carried .ensures)))

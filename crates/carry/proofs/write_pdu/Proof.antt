@@ -3,30 +3,18 @@ use Rattle.carry.proofs.Written.{writable, written}
 use borrow.Author.Needs.{needs}
 use Rattle.carry.proofs.write_pdu.Statement.{statement}
 use Rattle.carry.proofs.write_pdu.Tie as tie
-use Rattle.carry.proofs.write_pdu.Reads as reads
-use Rattle.carry.proofs.write_pdu.Lts as lts
-use Rattle.sending.proofs.pdu_of.Reads as pdu-of-reads
-use Rattle.writer.proofs.put_pdu.Reads as put-pdu-reads
 
--- src/lib.rt:60:9
-pdu-of-requires : tie.Need-pdu-of-requires
-pdu-of-requires c κs = search needs
-
--- src/lib.rt:61:5
 put-pdu-requires : tie.Need-put-pdu-requires
 put-pdu-requires c κs =
     let a = c .before .before .before .before in
     writable _ _ _ _ (c .before .pdu-of .ensures) (a .pre .0) _ (a .pre .1)
 
--- src/lib.rt:55:1
-same-length : tie.Need-same-length
-same-length c = search needs
-
--- src/lib.rt:55:1
 returns : tie.Need-returns
 returns c =
     let a = c .before .before .before .before .before .before .before in
     written _ _ _ _ (c .before .before .before .before .pdu-of .ensures) (a .pre .0) _ _ _ (c .before .before .put-pdu .ensures)
 
 pub write-pdu-spec : {M : Type 1} → statement M
-write-pdu-spec = tie.close (tie.spec pdu-of-requires put-pdu-requires same-length returns)
+write-pdu-spec =
+    tie.close (tie.spec
+    (λ c κs. search needs) put-pdu-requires (λ c. search needs) returns)

@@ -4,9 +4,6 @@ use Rattle.columns.specs.Columns.{stored}
 use Rattle.columns.proofs.stores.Statement.{statement}
 use Rattle.columns.proofs.stores.Tie as tie
 
-returns : tie.Need-returns
-unfolding stored
-returns c = refl
-
 pub stores-spec : {M : Type 1} → statement M
-stores-spec = tie.close (tie.spec returns)
+unfolding stored
+stores-spec = tie.close (tie.spec (λ c. refl))

@@ -4,9 +4,6 @@ use Rattle.columns.specs.Columns.{taken}
 use Rattle.columns.proofs.takes.Statement.{statement}
 use Rattle.columns.proofs.takes.Tie as tie
 
-returns : tie.Need-returns
-unfolding taken
-returns c = refl
-
 pub takes-spec : {M : Type 1} → statement M
-takes-spec = tie.close (tie.spec returns)
+unfolding taken
+takes-spec = tie.close (tie.spec (λ c. refl))

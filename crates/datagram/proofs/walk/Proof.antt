@@ -11,10 +11,6 @@ use Rattle.datagram.proofs.Steps.{found-inside}
 use Rattle.datagram.proofs.Passed.{Passed, passed-none, passed-more, passed-cut, passed-all, passed-few}
 use Rattle.datagram.proofs.walk.Statement.{statement}
 use Rattle.datagram.proofs.walk.Tie as tie
-use Rattle.datagram.proofs.walk.Reads as reads
-use Rattle.datagram.proofs.walk.Lts as lts
-use Rattle.datagram.proofs.count_in.Reads as count-in-reads
-use Rattle.datagram.proofs.part_at.Reads as part-at-reads
 
 abbrev Inv-loop : tie.InvT-loop
 Inv-loop d k seen₀ at₀ seen at = Passed d k seen at
@@ -26,33 +22,15 @@ found-one : (c : tie.After-count-in Inv-loop μ-loop)
     → partAt (now (c .before .before .before .before .before .before .before .before .args .d)) (c .before .before .before .before .before .before .loop .at) ≡ One (c .before .before .start .given .0 .0) (c .before .before .start .given .0 .1 .0)
 found-one c = sym (c .before .before .before .before .part-at .ensures) ∙ c .before .before .start .given .1
 
-loop-holds : tie.Need-loop-holds Inv-loop μ-loop
-loop-holds c = passed-none (now (c .before .args .d)) (c .before .args .k) (c .before .pre .0)
-
-part-at-requires : tie.Need-part-at-requires Inv-loop μ-loop
-part-at-requires c κs = search needs
-
-enum-told : tie.Need-enum-told Inv-loop μ-loop
-enum-told c = search needs
-
 returns : tie.Need-returns Inv-loop μ-loop
 returns c =
     let k = c .before .before .before .before .before .before .args .k in
     sym (ap (λ (s : Split). answerAt s k) (passed-cut (c .before .before .before .loop-test .taken) (c .before .before .before .before .loop .inv) (sym (c .before .before .part-at .ensures) ∙ c .enum-told .given .1)))
 
-enum-known-start : tie.Need-enum-known-start Inv-loop μ-loop
-enum-known-start c = search needs
-
 count-in-requires : tie.Need-count-in-requires Inv-loop μ-loop
 count-in-requires c κs =
     let v = c .before .before .before .before .before .loop .inv in
     omega (arith, passed-few v, c .before .before .before .before .before .before .before .pre .1)
-
-add-at : tie.Need-add-at Inv-loop μ-loop
-add-at c = omega (arith, found-inside _ _ _ _ (c .before .before .before .before .before .loop-test .taken) (found-one c) .fits)
-
-loop-less : tie.Need-loop-less Inv-loop μ-loop
-loop-less c = omega (arith, found-inside _ _ _ _ (c .before .before .before .before .before .loop-test .taken) (found-one c))
 
 loop-again : tie.Need-loop-again Inv-loop μ-loop
 loop-again c =
@@ -66,17 +44,10 @@ returns-2 c =
 
 pub walk-spec : {M : Type 1} → statement M
 walk-spec =
-    tie.close
-    (tie.spec
-    Inv-loop
-    μ-loop
-    loop-holds
-    part-at-requires
-    enum-told
-    returns
-    enum-known-start
-    count-in-requires
-    add-at
-    loop-less
-    loop-again
-    returns-2)
+    tie.close (tie.spec
+    Inv-loop μ-loop
+    (λ c. passed-none (now (c .before .args .d)) (c .before .args .k) (c .before .pre .0))
+    (λ c κs. search needs) (λ c. search needs) returns (λ c. search needs) count-in-requires
+    (λ c. omega (arith, found-inside _ _ _ _ (c .before .before .before .before .before .loop-test .taken) (found-one c) .fits))
+    (λ c. omega (arith, found-inside _ _ _ _ (c .before .before .before .before .before .loop-test .taken) (found-one c)))
+    loop-again returns-2)

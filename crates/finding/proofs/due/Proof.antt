@@ -11,10 +11,6 @@ use Rattle.finding.proofs.Best.{turn, over, weighed, passed-over, bette
 use borrow.Author.Needs.{needs}
 use Rattle.finding.proofs.due.Statement.{statement}
 use Rattle.finding.proofs.due.Tie as tie
-use Rattle.finding.proofs.due.Reads as reads
-use Rattle.finding.proofs.due.Lts as lts
-use Rattle.finding.proofs.earlier_of.Reads as earlier-of-reads
-use Rattle.finding.proofs.is_due.Reads as is-due-reads
 
 abbrev Inv-loop : tie.InvT-loop
 Inv-loop t n time best₀ i₀ b i = (i ≤ n) × Within t b × (best (betterOf t time) n 0 Nothing ≡ best (betterOf t time) (n - i) i b)
@@ -22,27 +18,6 @@ Inv-loop t n time best₀ i₀ b i = (i ≤ n) × Within t b × (best (betterOf 
 abbrev μ-loop : tie.MeasureT-loop
 μ-loop t n time best₀ i₀ b i = n - i
 
--- src/lib.rt:200:5
-loop-holds : tie.Need-loop-holds Inv-loop μ-loop
-loop-holds c = (search needs, tt, rw sub-zero refl)
-
--- src/lib.rt:201:12
-is-due-requires : tie.Need-is-due-requires Inv-loop μ-loop
-is-due-requires c κs = search needs
-
--- src/lib.rt:202:13
-earlier-of-requires : tie.Need-earlier-of-requires Inv-loop μ-loop
-earlier-of-requires c κs = (search needs, c .before .before .before .loop .inv .1)
-
--- src/lib.rt:204:9
-add-i : tie.Need-add-i Inv-loop μ-loop
-add-i c = search needs
-
--- src/lib.rt:200:5
-loop-less : tie.Need-loop-less Inv-loop μ-loop
-loop-less c = search needs
-
--- src/lib.rt:200:5
 loop-again : tie.Need-loop-again Inv-loop μ-loop
 loop-again c =
     let a = c .before .before .before .before .before .args in
@@ -57,21 +32,13 @@ loop-again c =
       l .inv .2 ∙ turn (betterOf (now (a .t)) (a .time)) (a .n) (l .i) (l .best) (c .before .before .loop-test .taken) ∙ ap (best _ _ _) (sym e),
     )
 
--- src/lib.rt:194:1
-returns : tie.Need-returns Inv-loop μ-loop
-unfolding dueOf
-returns c = sym (c .before .loop .inv .2 ∙ over _ _ _ _ (c .loop-test .left))
-
 pub due-spec : {M : Type 1} → statement M
+unfolding dueOf
 due-spec =
-    tie.close
-    (tie.spec
-    Inv-loop
-    μ-loop
-    loop-holds
-    is-due-requires
-    earlier-of-requires
-    add-i
-    loop-less
-    loop-again
-    returns)
+    tie.close (tie.spec
+    Inv-loop μ-loop
+    (λ c. (search needs, tt, rw sub-zero refl))
+    (λ c κs. search needs)
+    (λ c κs. (search needs, c .before .before .before .loop .inv .1))
+    (λ c. search needs) (λ c. search needs) loop-again
+    (λ c. sym (c .before .loop .inv .2 ∙ over _ _ _ _ (c .loop-test .left))))

@@ -12,9 +12,6 @@ use Rattle.finding.proofs.First.{hit, miss, none}
 use borrow.Author.Needs.{needs}
 use Rattle.finding.proofs.search.Statement.{statement}
 use Rattle.finding.proofs.search.Tie as tie
-use Rattle.finding.proofs.search.Reads as reads
-use Rattle.finding.proofs.search.Lts as lts
-use Rattle.finding.proofs.is_sought.Reads as is-sought-reads
 
 abbrev at-place : List ℕ → Sought → ℕ → Bool
 at-place t what i = isSought what (recordAt t i)
@@ -25,44 +22,13 @@ Inv-loop t n what i₀ i = (i ≤ n) × (first (at-place t what) n 0 ≡ first (
 abbrev μ-loop : tie.MeasureT-loop
 μ-loop t n what i₀ i = n - i
 
--- src/lib.rt:132:5
-loop-holds : tie.Need-loop-holds Inv-loop μ-loop
-loop-holds c = (search needs, rw sub-zero refl)
-
--- src/lib.rt:133:12
-is-sought-requires : tie.Need-is-sought-requires Inv-loop μ-loop
-is-sought-requires c κs = search needs
-
--- src/lib.rt:134:13
-returns : tie.Need-returns Inv-loop μ-loop
-returns c = sym (c .before .before .before .loop .inv .1 ∙ hit (at-place (now (c .before .before .before .before .before .args .t)) (c .before .before .before .before .before .args .what)) _ _ (c .before .before .loop-test .taken) (sym (c .before .is-sought .ensures) ∙ c .if1 .taken))
-
--- src/lib.rt:136:9
-add-i : tie.Need-add-i Inv-loop μ-loop
-add-i c = search needs
-
--- src/lib.rt:132:5
-loop-less : tie.Need-loop-less Inv-loop μ-loop
-loop-less c = search needs
-
--- src/lib.rt:132:5
-loop-again : tie.Need-loop-again Inv-loop μ-loop
-loop-again c = (search needs, c .before .before .before .loop .inv .1 ∙ miss (at-place (now (c .before .before .before .before .before .args .t)) (c .before .before .before .before .before .args .what)) _ _ (c .before .before .loop-test .taken) (sym (c .before .is-sought .ensures) ∙ c .if1 .left))
-
--- src/lib.rt:127:1
-returns-2 : tie.Need-returns-2 Inv-loop μ-loop
-returns-2 c = sym (c .before .loop .inv .1 ∙ none _ _ _ (c .loop-test .left))
-
 pub search-spec : {M : Type 1} → statement M
 search-spec =
-    tie.close
-    (tie.spec
-    Inv-loop
-    μ-loop
-    loop-holds
-    is-sought-requires
-    returns
-    add-i
-    loop-less
-    loop-again
-    returns-2)
+    tie.close (tie.spec
+    Inv-loop μ-loop
+    (λ c. (search needs, rw sub-zero refl))
+    (λ c κs. search needs)
+    (λ c. sym (c .before .before .before .loop .inv .1 ∙ hit (at-place (now (c .before .before .before .before .before .args .t)) (c .before .before .before .before .before .args .what)) _ _ (c .before .before .loop-test .taken) (sym (c .before .is-sought .ensures) ∙ c .if1 .taken)))
+    (λ c. search needs) (λ c. search needs)
+    (λ c. (search needs, c .before .before .before .loop .inv .1 ∙ miss (at-place (now (c .before .before .before .before .before .args .t)) (c .before .before .before .before .before .args .what)) _ _ (c .before .before .loop-test .taken) (sym (c .before .is-sought .ensures) ∙ c .if1 .left)))
+    (λ c. sym (c .before .loop .inv .1 ∙ none _ _ _ (c .loop-test .left))))

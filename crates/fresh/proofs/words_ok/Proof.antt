@@ -12,9 +12,6 @@ use Rattle.fresh.specs.Fresh.{wordOk, wordsOk}
 use borrow.Author.Needs.{needs}
 use Rattle.fresh.proofs.words_ok.Statement.{statement}
 use Rattle.fresh.proofs.words_ok.Tie as tie
-use Rattle.fresh.proofs.words_ok.Reads as reads
-use Rattle.fresh.proofs.words_ok.Lts as lts
-use Rattle.fresh.proofs.word_ok.Reads as word-ok-reads
 
 abbrev passes : List ℕ → ℕ → Bool
 passes ws k = wordOk k (getD ws k 0)
@@ -25,40 +22,6 @@ Inv-loop ws k₀ k = (k ≤ 32) × (every (passes ws) k ≡ true)
 abbrev μ-loop : tie.MeasureT-loop
 μ-loop ws k₀ k = 32 - k
 
--- src/lib.rt:65:5
-loop-holds : tie.Need-loop-holds Inv-loop μ-loop
-loop-holds c = (search needs, every-none (passes (now (c .before .args .ws))))
-
--- src/lib.rt:66:23
-mul-word-ok : tie.Need-mul-word-ok Inv-loop μ-loop
-mul-word-ok c = search needs
-
--- src/lib.rt:66:23
-shared-slice-read-word-ok : tie.Need-shared-slice-read-word-ok Inv-loop μ-loop
-shared-slice-read-word-ok c = search needs
-
--- src/lib.rt:66:12
-word-ok-requires : tie.Need-word-ok-requires Inv-loop μ-loop
-word-ok-requires c κs = search needs
-
--- src/lib.rt:67:13
-add-k : tie.Need-add-k Inv-loop μ-loop
-add-k c = search needs
-
--- src/lib.rt:65:5
-loop-less : tie.Need-loop-less Inv-loop μ-loop
-loop-less c = search needs
-
--- src/lib.rt:65:5
-loop-again : tie.Need-loop-again Inv-loop μ-loop
-loop-again c = (search needs, every-more (passes (now (c .before .before .before .before .before .before .args .ws))) (c .before .before .before .before .loop .k) (sym (c .before .word-ok .ensures) ∙ c .if1 .taken) (c .before .before .before .before .loop .inv .1))
-
--- src/lib.rt:69:13
-returns : tie.Need-returns Inv-loop μ-loop
-unfolding wordsOk
-returns c = sym (every-fails (passes (now (c .before .before .before .before .before .before .args .ws))) 32 (c .before .before .before .before .loop .k) (c .before .before .before .loop-test .taken) (sym (c .before .word-ok .ensures) ∙ c .if1 .left))
-
--- src/lib.rt:60:1
 returns-2 : tie.Need-returns-2 Inv-loop μ-loop
 unfolding wordsOk
 returns-2 c =
@@ -66,17 +29,12 @@ returns-2 c =
     sym (rw e at (c .before .loop .inv .1))
 
 pub words-ok-spec : {M : Type 1} → statement M
+unfolding wordsOk
 words-ok-spec =
-    tie.close
-    (tie.spec
-    Inv-loop
-    μ-loop
-    loop-holds
-    mul-word-ok
-    shared-slice-read-word-ok
-    word-ok-requires
-    add-k
-    loop-less
-    loop-again
-    returns
+    tie.close (tie.spec
+    Inv-loop μ-loop
+    (λ c. (search needs, every-none (passes (now (c .before .args .ws)))))
+    (λ c. search needs) (λ c. search needs) (λ c κs. search needs) (λ c. search needs) (λ c. search needs)
+    (λ c. (search needs, every-more (passes (now (c .before .before .before .before .before .before .args .ws))) (c .before .before .before .before .loop .k) (sym (c .before .word-ok .ensures) ∙ c .if1 .taken) (c .before .before .before .before .loop .inv .1)))
+    (λ c. sym (every-fails (passes (now (c .before .before .before .before .before .before .args .ws))) 32 (c .before .before .before .before .loop .k) (c .before .before .before .loop-test .taken) (sym (c .before .word-ok .ensures) ∙ c .if1 .left)))
     returns-2)

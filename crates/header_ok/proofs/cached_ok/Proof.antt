@@ -18,29 +18,17 @@ Inv-loop t marks₀ peer₀ marks peer = (peer ≤ peers) × (eqb marks 0 ≡ ev
 abbrev μ-loop : tie.MeasureT-loop
 μ-loop t marks₀ peer₀ marks peer = peers - peer
 
-loop-holds : tie.Need-loop-holds Inv-loop μ-loop
-unfolding every
-loop-holds c = (search needs, refl)
-
-over-requires : tie.Need-over-requires Inv-loop μ-loop
-over-requires c κs = search needs
-
-add-peer : tie.Need-add-peer Inv-loop μ-loop
-add-peer c = search needs
-
-loop-less : tie.Need-loop-less Inv-loop μ-loop
-loop-less c = search needs
-
 loop-again : tie.Need-loop-again Inv-loop μ-loop
 loop-again c =
     let a = c .before .before .before .before .args in
     let l = c .before .before .loop in
     (search needs, marks-more (λ p. leb (cachedOf (now (a .t)) p) cachedBound) (l .peer) (l .marks) (c .over .result) (c .before .before .loop .inv .1) (c .over .ensures))
 
-returns : tie.Need-returns Inv-loop μ-loop
-returns c = marks-done (λ p. leb (cachedOf (now (c .before .before .before .args .t)) p) cachedBound) peers (c .before .loop .peer) (c .before .loop .marks) (c .before .loop .inv .0) (c .loop-test .left) (c .before .loop .inv .1)
-
 pub cached-ok-spec : {M : Type 1} → statement M
+unfolding every
 cached-ok-spec =
-    tie.close
-    (tie.spec Inv-loop μ-loop loop-holds over-requires add-peer loop-less loop-again returns)
+    tie.close (tie.spec
+    Inv-loop μ-loop
+    (λ c. (search needs, refl))
+    (λ c κs. search needs) (λ c. search needs) (λ c. search needs) loop-again
+    (λ c. marks-done (λ p. leb (cachedOf (now (c .before .before .before .args .t)) p) cachedBound) peers (c .before .loop .peer) (c .before .loop .marks) (c .before .loop .inv .0) (c .loop-test .left) (c .before .loop .inv .1)))

@@ -18,52 +18,14 @@ Inv-loop t k₀ k = (k ≤ 18) × (every (λ j. interval (intervalAt t j)) k ≡
 abbrev μ-loop : tie.MeasureT-loop
 μ-loop t k₀ k = 18 - k
 
-loop-holds : tie.Need-loop-holds Inv-loop μ-loop
-loop-holds c = (search needs, every-none _)
-
-mul-get32 : tie.Need-mul-get32 Inv-loop μ-loop
-mul-get32 c = search needs
-
-add-get32 : tie.Need-add-get32 Inv-loop μ-loop
-add-get32 c = search needs
-
-get32-requires : tie.Need-get32-requires Inv-loop μ-loop
-get32-requires c κs = search needs
-
-interval-ok-requires : tie.Need-interval-ok-requires Inv-loop μ-loop
-interval-ok-requires c κs = search needs
-
-returns : tie.Need-returns Inv-loop μ-loop
-unfolding intervalAt
-returns c = sym (every-fails _ _ _ (c .before .before .before .loop-test .taken) (broke (c .before .interval-ok .ensures ∙ ap interval (c .before .before .get32 .ensures)) (c .if1 .taken)))
-
-add-k : tie.Need-add-k Inv-loop μ-loop
-add-k c = search needs
-
-loop-less : tie.Need-loop-less Inv-loop μ-loop
-loop-less c = search needs
-
-loop-again : tie.Need-loop-again Inv-loop μ-loop
-unfolding intervalAt
-loop-again c =
-    (search needs, every-more _ _ (held (c .before .interval-ok .ensures ∙ ap interval (c .before .before .get32 .ensures)) (c .if1 .left)) (c .before .before .before .before .loop .inv .1))
-
-returns-2 : tie.Need-returns-2 Inv-loop μ-loop
-returns-2 c = sym (every-done _ _ _ (c .before .loop .inv .0) (c .loop-test .left) (c .before .loop .inv .1))
-
 pub rows-ok-spec : {M : Type 1} → statement M
+unfolding intervalAt
 rows-ok-spec =
-    tie.close
-    (tie.spec
-    Inv-loop
-    μ-loop
-    loop-holds
-    mul-get32
-    add-get32
-    get32-requires
-    interval-ok-requires
-    returns
-    add-k
-    loop-less
-    loop-again
-    returns-2)
+    tie.close (tie.spec
+    Inv-loop μ-loop
+    (λ c. (search needs, every-none _))
+    (λ c. search needs) (λ c. search needs) (λ c κs. search needs) (λ c κs. search needs)
+    (λ c. sym (every-fails _ _ _ (c .before .before .before .loop-test .taken) (broke (c .before .interval-ok .ensures ∙ ap interval (c .before .before .get32 .ensures)) (c .if1 .taken))))
+    (λ c. search needs) (λ c. search needs)
+    (λ c. (search needs, every-more _ _ (held (c .before .interval-ok .ensures ∙ ap interval (c .before .before .get32 .ensures)) (c .if1 .left)) (c .before .before .before .before .loop .inv .1)))
+    (λ c. sym (every-done _ _ _ (c .before .loop .inv .0) (c .loop-test .left) (c .before .loop .inv .1))))

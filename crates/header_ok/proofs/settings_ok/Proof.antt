@@ -15,43 +15,15 @@ past2 c = passes 1 _ (past1 (c .before .before)) (held (c .before .maximum-ok2 .
 past3 : (c : tie.Else3) → Passed 3 (settingsTests (c .before .before .before .before .before .before .args .s))
 past3 c = passes 2 _ (past2 (c .before .before)) (held (c .before .interval-ok .ensures) (c .if3 .left))
 
-maximum-ok-requires : tie.Need-maximum-ok-requires
-maximum-ok-requires c κs = search needs
-
-returns : tie.Need-returns
-unfolding settingsOk
-returns c = fails 0 (settingsTests (c .before .before .args .s)) (none-passed _) (broke (c .before .maximum-ok .ensures) (c .if1 .taken))
-
-maximum-ok-requires-2 : tie.Need-maximum-ok-requires-2
-maximum-ok-requires-2 c κs = search needs
-
-returns-2 : tie.Need-returns-2
-unfolding settingsOk
-returns-2 c = fails 1 _ (past1 (c .before .before)) (broke (c .before .maximum-ok2 .ensures) (c .if2 .taken))
-
-interval-ok-requires : tie.Need-interval-ok-requires
-interval-ok-requires c κs = search needs
-
-returns-3 : tie.Need-returns-3
-unfolding settingsOk
-returns-3 c = fails 2 _ (past2 (c .before .before)) (broke (c .before .interval-ok .ensures) (c .if3 .taken))
-
-interval-ok-requires-2 : tie.Need-interval-ok-requires-2
-interval-ok-requires-2 c κs = search needs
-
-returns-4 : tie.Need-returns-4
-unfolding settingsOk
-returns-4 c = decides 3 _ _ (past3 (c .before)) refl (c .interval-ok2 .ensures)
-
 pub settings-ok-spec : {M : Type 1} → statement M
+unfolding settingsOk
 settings-ok-spec =
-    tie.close
-    (tie.spec
-    maximum-ok-requires
-    returns
-    maximum-ok-requires-2
-    returns-2
-    interval-ok-requires
-    returns-3
-    interval-ok-requires-2
-    returns-4)
+    tie.close (tie.spec
+    (λ c κs. search needs)
+    (λ c. fails 0 (settingsTests (c .before .before .args .s)) (none-passed _) (broke (c .before .maximum-ok .ensures) (c .if1 .taken)))
+    (λ c κs. search needs)
+    (λ c. fails 1 _ (past1 (c .before .before)) (broke (c .before .maximum-ok2 .ensures) (c .if2 .taken)))
+    (λ c κs. search needs)
+    (λ c. fails 2 _ (past2 (c .before .before)) (broke (c .before .interval-ok .ensures) (c .if3 .taken)))
+    (λ c κs. search needs)
+    (λ c. decides 3 _ _ (past3 (c .before)) refl (c .interval-ok2 .ensures)))

@@ -7,17 +7,10 @@ use borrow.Author.Needs.{needs}
 use Rattle.header_ok.proofs.spare_ok.Statement.{statement}
 use Rattle.header_ok.proofs.spare_ok.Tie as tie
 
-zero4-requires : tie.Need-zero4-requires
-zero4-requires c κs = search needs
-
-returns : tie.Need-returns
-returns c = first-broke (now (c .before .before .before .args .t)) spareStart 4 16 (broke (c .before .zero4 .ensures) (c .if1 .taken))
-
-zero-words-requires : tie.Need-zero-words-requires
-zero-words-requires c κs = search needs
-
-returns-2 : tie.Need-returns-2
-returns-2 c = first-held (now (c .before .before .before .before .args .t)) spareStart 4 16 (held (c .before .before .zero4 .ensures) (c .before .if1 .left)) (c .zero-words .ensures)
-
 pub spare-ok-spec : {M : Type 1} → statement M
-spare-ok-spec = tie.close (tie.spec zero4-requires returns zero-words-requires returns-2)
+spare-ok-spec =
+    tie.close (tie.spec
+    (λ c κs. search needs)
+    (λ c. first-broke (now (c .before .before .before .args .t)) spareStart 4 16 (broke (c .before .zero4 .ensures) (c .if1 .taken)))
+    (λ c κs. search needs)
+    (λ c. first-held (now (c .before .before .before .before .args .t)) spareStart 4 16 (held (c .before .before .zero4 .ensures) (c .before .if1 .left)) (c .zero-words .ensures)))

@@ -5,24 +5,11 @@ use Rattle.joiner.proofs.Answers.{too-small, large-enough, accepted}
 use borrow.Author.Needs.{needs}
 use Rattle.joiner.proofs.join.Statement.{statement}
 use Rattle.joiner.proofs.join.Tie as tie
-use Rattle.joiner.proofs.join.Reads as reads
-use Rattle.joiner.proofs.join.Lts as lts
-use Rattle.joiner.proofs.planned.Reads as planned-reads
-use Rattle.joiner.proofs.write.Reads as write-reads
 
 returns : tie.Need-returns
 returns c =
     let a = c .before .before .before .before .args in
     rw (too-small (now (a .bytes)) (now (a .lengths)) (now (a .out)) (c .if1 .taken)) (refl, refl)
-
-planned-requires : tie.Need-planned-requires
-planned-requires c κs = search needs
-
-enum-known-r : tie.Need-enum-known-r
-enum-known-r c = search needs
-
-enum-known-n : tie.Need-enum-known-n
-enum-known-n c = search needs
 
 write-requires : tie.Need-write-requires
 write-requires c κs =
@@ -35,9 +22,6 @@ returns-2 c =
     let a = b .before .before .before .before .before .args in
     rw (large-enough (now (a .bytes)) (now (a .lengths)) (now (a .out)) (b .before .if1 .left) ∙ sym (b .planned .ensures) ∙ c .before .r .given .1) (refl, refl)
 
-same-length : tie.Need-same-length
-same-length c = search needs
-
 returns-3 : tie.Need-returns-3
 returns-3 c =
     let d = c .before .before .before .before .before in
@@ -47,13 +31,6 @@ returns-3 c =
 
 pub join-spec : {M : Type 1} → statement M
 join-spec =
-    tie.close
-    (tie.spec
-    returns
-    planned-requires
-    enum-known-r
-    enum-known-n
-    write-requires
-    returns-2
-    same-length
+    tie.close (tie.spec
+    returns (λ c κs. search needs) (λ c. search needs) (λ c. search needs) write-requires returns-2 (λ c. search needs)
     returns-3)

@@ -10,10 +10,6 @@ use Rattle.judge.specs.Judge.{itemInside, itemsInside}
 use borrow.Author.Needs.{needs}
 use Rattle.judge.proofs.items_inside.Statement.{statement}
 use Rattle.judge.proofs.items_inside.Tie as tie
-use Rattle.judge.proofs.items_inside.Reads as reads
-use Rattle.judge.proofs.items_inside.Lts as lts
-use Rattle.judge.proofs.lies_inside.Reads as lies-inside-reads
-use Rattle.judge.proofs.places.Reads as places-reads
 
 abbrev Inv-loop : tie.InvT-loop
 Inv-loop count n list last k₀ k = (k ≤ last) × (every (itemInside n list) k ≡ true)
@@ -21,42 +17,12 @@ Inv-loop count n list last k₀ k = (k ≤ last) × (every (itemInside n list) k
 abbrev μ-loop : tie.MeasureT-loop
 μ-loop count n list last k₀ k = last - k
 
--- src/lib.rt:198:9
-places-requires : tie.Need-places-requires Inv-loop μ-loop
-places-requires c κs = search needs
-
--- src/lib.rt:200:5
-loop-holds : tie.Need-loop-holds Inv-loop μ-loop
-loop-holds c = (omega arith, every-none (itemInside (c .before .args .n) (c .before .args .t1)))
-
--- src/lib.rt:201:18
-mul-it : tie.Need-mul-it Inv-loop μ-loop
-mul-it c = search needs
-
--- src/lib.rt:201:18
-array-copy-out-it : tie.Need-array-copy-out-it Inv-loop μ-loop
-array-copy-out-it c = search needs
-
--- src/lib.rt:202:13
-lies-inside-requires : tie.Need-lies-inside-requires Inv-loop μ-loop
-lies-inside-requires c κs = search needs
-
--- src/lib.rt:204:13
-add-k : tie.Need-add-k Inv-loop μ-loop
-add-k c = search needs
-
--- src/lib.rt:200:5
-loop-less : tie.Need-loop-less Inv-loop μ-loop
-loop-less c = search needs
-
--- src/lib.rt:200:5
 loop-again : tie.Need-loop-again Inv-loop μ-loop
 loop-again c =
     let a = c .before .before .before .before .before .before .args in
     let l = c .before .before .before .before .loop in
     (omega arith, every-more (itemInside (a .n) (a .t1)) (l .k) (sym (c .before .lies-inside .ensures) ∙ c .if1 .taken) (l .inv .1))
 
--- src/lib.rt:206:13
 returns : tie.Need-returns Inv-loop μ-loop
 unfolding itemsInside
 returns c =
@@ -65,7 +31,6 @@ returns c =
     let below : l .k < placed (a .count) = omega (arith, c .before .before .before .before .before .places .ensures, c .before .before .before .loop-test .taken) in
     sym (every-fails (itemInside (a .n) (a .t1)) (placed (a .count)) (l .k) below (sym (c .before .lies-inside .ensures) ∙ c .if1 .left))
 
--- src/lib.rt:195:1
 returns-2 : tie.Need-returns-2 Inv-loop μ-loop
 unfolding itemsInside
 returns-2 c =
@@ -76,17 +41,8 @@ returns-2 c =
 
 pub items-inside-spec : {M : Type 1} → statement M
 items-inside-spec =
-    tie.close
-    (tie.spec
-    Inv-loop
-    μ-loop
-    places-requires
-    loop-holds
-    mul-it
-    array-copy-out-it
-    lies-inside-requires
-    add-k
-    loop-less
-    loop-again
-    returns
-    returns-2)
+    tie.close (tie.spec
+    Inv-loop μ-loop (λ c κs. search needs)
+    (λ c. (omega arith, every-none (itemInside (c .before .args .n) (c .before .args .t1))))
+    (λ c. search needs) (λ c. search needs) (λ c κs. search needs) (λ c. search needs) (λ c. search needs) loop-again
+    returns returns-2)

@@ -8,40 +8,10 @@ use borrow.Author.Needs.{needs}
 use Rattle.names_ok.proofs.key_of.Statement.{statement}
 use Rattle.names_ok.proofs.key_of.Tie as tie
 
-wide8-requires : tie.Need-wide8-requires
-wide8-requires c κs = search needs
-
-wide16-requires : tie.Need-wide16-requires
-wide16-requires c κs = search needs
-
-state-number-requires : tie.Need-state-number-requires
-state-number-requires c κs = search needs
-
 returns : tie.Need-returns
 returns c =
     let r = c .before .before .before .before .args .r in
     record { key = sym (key-free r (sym (c .before .state-number .ensures) ∙ c .if1 .taken)); peer = search needs; tid = search needs }
-
-role-of-requires : tie.Need-role-of-requires
-role-of-requires c κs = search needs
-
-role-number-requires : tie.Need-role-number-requires
-role-number-requires c κs = search needs
-
-add-result : tie.Need-add-result
-add-result c = search needs
-
-mul-result : tie.Need-mul-result
-mul-result c = search needs
-
-add-result-2 : tie.Need-add-result-2
-add-result-2 c = search needs
-
-mul-result-2 : tie.Need-mul-result-2
-mul-result-2 c = search needs
-
-add-result-3 : tie.Need-add-result-3
-add-result-3 c = search needs
 
 returns-2 : tie.Need-returns-2
 returns-2 c =
@@ -53,17 +23,7 @@ returns-2 c =
 
 pub key-of-spec : {M : Type 1} → statement M
 key-of-spec =
-    tie.close
-    (tie.spec
-    wide8-requires
-    wide16-requires
-    state-number-requires
-    returns
-    role-of-requires
-    role-number-requires
-    add-result
-    mul-result
-    add-result-2
-    mul-result-2
-    add-result-3
-    returns-2)
+    tie.close (tie.spec
+    (λ c κs. search needs) (λ c κs. search needs) (λ c κs. search needs) returns (λ c κs. search needs)
+    (λ c κs. search needs) (λ c. search needs) (λ c. search needs) (λ c. search needs) (λ c. search needs)
+    (λ c. search needs) returns-2)

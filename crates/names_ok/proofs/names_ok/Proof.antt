@@ -40,57 +40,18 @@ module _ (c : tie.After-new-key Inv-loop μ-loop) where
   judged : c .new-key .result ≡ newName table-of place
   judged = c .new-key .ensures ∙ key-new table-of (c .before .before .before .before .before .loop .keys) place _ below (c .before .before .before .before .before .loop .inv .1) keyed
 
-loop-holds : tie.Need-loop-holds Inv-loop μ-loop
-loop-holds c = (search needs, keys-none (now (c .before .args .t)), every-none _)
-
-record-at-requires : tie.Need-record-at-requires Inv-loop μ-loop
-record-at-requires c κs = search needs
-
-key-of-requires : tie.Need-key-of-requires Inv-loop μ-loop
-key-of-requires c κs = search needs
-
-new-key-requires : tie.Need-new-key-requires Inv-loop μ-loop
-new-key-requires c κs = search needs
-
-returns : tie.Need-returns Inv-loop μ-loop
-unfolding namesOk
-returns c = sym (every-fails _ _ _ (c .before .before .before .before .before .loop-test .taken) (broke (judged (c .before)) (c .if1 .taken)))
-
-mul-keys : tie.Need-mul-keys Inv-loop μ-loop
-mul-keys c = search needs
-
-array-write-keys : tie.Need-array-write-keys Inv-loop μ-loop
-array-write-keys c = search needs
-
-add-i : tie.Need-add-i Inv-loop μ-loop
-add-i c = search needs
-
-loop-less : tie.Need-loop-less Inv-loop μ-loop
-loop-less c = search needs
-
 loop-again : tie.Need-loop-again Inv-loop μ-loop
 loop-again c =
     let l = c .before .before .before .before .before .before .loop in
     (search needs, keys-more (table-of (c .before)) (l .keys) (l .i) _ (below (c .before)) (l .inv .1) (keyed (c .before)), every-more _ _ (held (judged (c .before)) (c .if1 .left)) (l .inv .2))
 
-returns-2 : tie.Need-returns-2 Inv-loop μ-loop
-unfolding namesOk
-returns-2 c = sym (every-done _ _ _ (c .before .loop .inv .0) (c .loop-test .left) (c .before .loop .inv .2))
-
 pub names-ok-spec : {M : Type 1} → statement M
+unfolding namesOk
 names-ok-spec =
-    tie.close
-    (tie.spec
-    Inv-loop
-    μ-loop
-    loop-holds
-    record-at-requires
-    key-of-requires
-    new-key-requires
-    returns
-    mul-keys
-    array-write-keys
-    add-i
-    loop-less
-    loop-again
-    returns-2)
+    tie.close (tie.spec
+    Inv-loop μ-loop
+    (λ c. (search needs, keys-none (now (c .before .args .t)), every-none _))
+    (λ c κs. search needs) (λ c κs. search needs) (λ c κs. search needs)
+    (λ c. sym (every-fails _ _ _ (c .before .before .before .before .before .loop-test .taken) (broke (judged (c .before)) (c .if1 .taken))))
+    (λ c. search needs) (λ c. search needs) (λ c. search needs) (λ c. search needs) loop-again
+    (λ c. sym (every-done _ _ _ (c .before .loop .inv .0) (c .loop-test .left) (c .before .loop .inv .2))))

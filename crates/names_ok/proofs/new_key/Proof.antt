@@ -20,28 +20,9 @@ Inv-loop keys k marks₀ j₀ marks j = (j ≤ recordsBound) × (eqb marks 0 ≡
 abbrev μ-loop : tie.MeasureT-loop
 μ-loop keys k marks₀ j₀ marks j = recordsBound - j
 
-returns : tie.Need-returns Inv-loop μ-loop
-unfolding newKey
-returns c = rw (eq-eqb _ _ (c .if1 .taken))
-
 loop-holds : tie.Need-loop-holds Inv-loop μ-loop
 unfolding every
 loop-holds c = (search needs, refl)
-
-mul-same : tie.Need-mul-same Inv-loop μ-loop
-mul-same c = search needs
-
-element-copy-out-same : tie.Need-element-copy-out-same Inv-loop μ-loop
-element-copy-out-same c = search needs
-
-same-requires : tie.Need-same-requires Inv-loop μ-loop
-same-requires c κs = search needs
-
-add-j : tie.Need-add-j Inv-loop μ-loop
-add-j c = search needs
-
-loop-less : tie.Need-loop-less Inv-loop μ-loop
-loop-less c = search needs
 
 loop-again : tie.Need-loop-again Inv-loop μ-loop
 loop-again c =
@@ -57,17 +38,10 @@ returns-2 c =
     rw (ne-eqb _ _ (c .before .before .if1 .left)) (marks-done (λ m. not (eqb (getD (now (a .keys)) m 0) (a .k))) recordsBound (l .j) (l .marks) (l .inv .0) (c .loop-test .left) (l .inv .1))
 
 pub new-key-spec : {M : Type 1} → statement M
+unfolding newKey
 new-key-spec =
-    tie.close
-    (tie.spec
-    Inv-loop
-    μ-loop
-    returns
-    loop-holds
-    mul-same
-    element-copy-out-same
-    same-requires
-    add-j
-    loop-less
-    loop-again
-    returns-2)
+    tie.close (tie.spec
+    Inv-loop μ-loop
+    (λ c. rw (eq-eqb _ _ (c .if1 .taken)))
+    loop-holds (λ c. search needs) (λ c. search needs) (λ c κs. search needs) (λ c. search needs) (λ c. search needs)
+    loop-again returns-2)

@@ -4,13 +4,9 @@ use Rattle.ranges.specs.Ranges.{interval}
 use Rattle.ranges.proofs.interval_ok.Statement.{statement}
 use Rattle.ranges.proofs.interval_ok.Tie as tie
 
-returns : tie.Need-returns
-unfolding interval
-returns c = simp (le-leb _ _ (c .if1 .taken))
-
-returns-2 : tie.Need-returns-2
-unfolding interval
-returns-2 c = simp (lt-leb _ _ (c .if1 .left))
-
 pub interval-ok-spec : {M : Type 1} → statement M
-interval-ok-spec = tie.close (tie.spec returns returns-2)
+unfolding interval
+interval-ok-spec =
+    tie.close (tie.spec
+    (λ c. simp (le-leb _ _ (c .if1 .taken)))
+    (λ c. simp (lt-leb _ _ (c .if1 .left))))

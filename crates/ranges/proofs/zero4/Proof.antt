@@ -5,11 +5,8 @@ use Rattle.ranges.proofs.Zeros.{num-zeros}
 use Rattle.ranges.proofs.zero4.Statement.{statement}
 use Rattle.ranges.proofs.zero4.Tie as tie
 
-get32-requires : tie.Need-get32-requires
-get32-requires c κs = search needs
-
-returns : tie.Need-returns
-returns c = rw (c .get32 .ensures) (num-zeros 4 (c .before .before .args .at) (now (c .before .before .args .t)))
-
 pub zero4-spec : {M : Type 1} → statement M
-zero4-spec = tie.close (tie.spec get32-requires returns)
+zero4-spec =
+    tie.close (tie.spec
+    (λ c κs. search needs)
+    (λ c. rw (c .get32 .ensures) (num-zeros 4 (c .before .before .args .at) (now (c .before .before .args .t)))))

@@ -17,32 +17,6 @@ Inv-loop t at n bits₀ i₀ bits i = (i ≤ n) × (eqb bits 0 ≡ zeros t at (i
 abbrev μ-loop : tie.MeasureT-loop
 μ-loop t at n bits₀ i₀ bits i = n - i
 
--- src/lib.rt:48:5
-loop-holds : tie.Need-loop-holds Inv-loop μ-loop
-unfolding zeros every
-loop-holds c = (search needs, refl)
-
--- src/lib.rt:49:45
-mul-get64 : tie.Need-mul-get64 Inv-loop μ-loop
-mul-get64 c = search needs
-
--- src/lib.rt:49:40
-add-get64 : tie.Need-add-get64 Inv-loop μ-loop
-add-get64 c = search needs
-
--- src/lib.rt:49:23
-get64-requires : tie.Need-get64-requires Inv-loop μ-loop
-get64-requires c κs = search needs
-
--- src/lib.rt:50:9
-add-i : tie.Need-add-i Inv-loop μ-loop
-add-i c = search needs
-
--- src/lib.rt:48:5
-loop-less : tie.Need-loop-less Inv-loop μ-loop
-loop-less c = search needs
-
--- src/lib.rt:48:5
 loop-again : tie.Need-loop-again Inv-loop μ-loop
 loop-again c =
     let a = c .before .before .before .before .args in
@@ -50,23 +24,16 @@ loop-again c =
     let e : (i + 1) * 8 ≡ i * 8 + 8 = omega arith in
     (search needs, rw (e, c .get64 .ensures) (zeros-more (now (a .t)) (a .at) (i * 8) 8 (c .before .before .loop .bits) (c .before .before .loop .inv .1)))
 
--- src/lib.rt:42:1
 returns : tie.Need-returns Inv-loop μ-loop
 returns c =
     let e : c .before .loop .i ≡ c .before .before .before .args .n = omega arith in
     rw e at (c .before .loop .inv .1)
 
 pub zero-words-spec : {M : Type 1} → statement M
+unfolding zeros every
 zero-words-spec =
-    tie.close
-    (tie.spec
-    Inv-loop
-    μ-loop
-    loop-holds
-    mul-get64
-    add-get64
-    get64-requires
-    add-i
-    loop-less
-    loop-again
+    tie.close (tie.spec
+    Inv-loop μ-loop
+    (λ c. (search needs, refl))
+    (λ c. search needs) (λ c. search needs) (λ c κs. search needs) (λ c. search needs) (λ c. search needs) loop-again
     returns)

@@ -3,82 +3,20 @@ use borrow.Author.Tests.{ne-eqb}
 use Rattle.record.specs.Record.{stateOf}
 use Rattle.record.proofs.state_of.Statement.{statement}
 use Rattle.record.proofs.state_of.Tie as tie
-use Rattle.record.proofs.state_of.Reads as reads
-use Rattle.record.proofs.state_of.Lts as lts
-
--- src/lib.rt:116:1
-returns : tie.Need-returns
-unfolding stateOf
-returns c = rw (c .match .keys1)
-
--- src/lib.rt:116:1
-returns-2 : tie.Need-returns-2
-unfolding stateOf
-returns-2 c = rw (c .match .keys2)
-
--- src/lib.rt:116:1
-returns-3 : tie.Need-returns-3
-unfolding stateOf
-returns-3 c = rw (c .match .keys3)
-
--- src/lib.rt:116:1
-returns-4 : tie.Need-returns-4
-unfolding stateOf
-returns-4 c = rw (c .match .keys4)
-
--- src/lib.rt:116:1
-returns-5 : tie.Need-returns-5
-unfolding stateOf
-returns-5 c = rw (c .match .keys5)
-
--- src/lib.rt:116:1
-returns-6 : tie.Need-returns-6
-unfolding stateOf
-returns-6 c = rw (c .match .keys6)
-
--- src/lib.rt:116:1
-returns-7 : tie.Need-returns-7
-unfolding stateOf
-returns-7 c = rw (c .match .keys7)
-
--- src/lib.rt:116:1
-returns-8 : tie.Need-returns-8
-unfolding stateOf
-returns-8 c = rw (c .match .keys8)
-
--- src/lib.rt:116:1
-returns-9 : tie.Need-returns-9
-unfolding stateOf
-returns-9 c = rw (c .match .keys9)
-
--- src/lib.rt:116:1
-returns-10 : tie.Need-returns-10
-unfolding stateOf
-returns-10 c = rw (c .match .keys10)
-
--- src/lib.rt:116:1
-returns-11 : tie.Need-returns-11
-unfolding stateOf
-returns-11 c = rw (c .match .keys11)
-
--- src/lib.rt:116:1
-returns-12 : tie.Need-returns-12
-unfolding stateOf
-returns-12 c = simp (ne-eqb _ _ (c .match .rest .1), ne-eqb _ _ (c .match .rest .0 .1), ne-eqb _ _ (c .match .rest .0 .0 .1), ne-eqb _ _ (c .match .rest .0 .0 .0 .1), ne-eqb _ _ (c .match .rest .0 .0 .0 .0 .1), ne-eqb _ _ (c .match .rest .0 .0 .0 .0 .0 .1), ne-eqb _ _ (c .match .rest .0 .0 .0 .0 .0 .0 .1), ne-eqb _ _ (c .match .rest .0 .0 .0 .0 .0 .0 .0 .1), ne-eqb _ _ (c .match .rest .0 .0 .0 .0 .0 .0 .0 .0 .1), ne-eqb _ _ (c .match .rest .0 .0 .0 .0 .0 .0 .0 .0 .0 .1), ne-eqb _ _ (c .match .rest .0 .0 .0 .0 .0 .0 .0 .0 .0 .0 .1))
 
 pub state-of-spec : {M : Type 1} → statement M
+unfolding stateOf
 state-of-spec =
-    tie.close
-    (tie.spec
-    returns
-    returns-2
-    returns-3
-    returns-4
-    returns-5
-    returns-6
-    returns-7
-    returns-8
-    returns-9
-    returns-10
-    returns-11
-    returns-12)
+    tie.close (tie.spec
+    (λ c. rw (c .match .keys1))
+    (λ c. rw (c .match .keys2))
+    (λ c. rw (c .match .keys3))
+    (λ c. rw (c .match .keys4))
+    (λ c. rw (c .match .keys5))
+    (λ c. rw (c .match .keys6))
+    (λ c. rw (c .match .keys7))
+    (λ c. rw (c .match .keys8))
+    (λ c. rw (c .match .keys9))
+    (λ c. rw (c .match .keys10))
+    (λ c. rw (c .match .keys11))
+    (λ c. simp (ne-eqb _ _ (c .match .rest .1), ne-eqb _ _ (c .match .rest .0 .1), ne-eqb _ _ (c .match .rest .0 .0 .1), ne-eqb _ _ (c .match .rest .0 .0 .0 .1), ne-eqb _ _ (c .match .rest .0 .0 .0 .0 .1), ne-eqb _ _ (c .match .rest .0 .0 .0 .0 .0 .1), ne-eqb _ _ (c .match .rest .0 .0 .0 .0 .0 .0 .1), ne-eqb _ _ (c .match .rest .0 .0 .0 .0 .0 .0 .0 .1), ne-eqb _ _ (c .match .rest .0 .0 .0 .0 .0 .0 .0 .0 .1), ne-eqb _ _ (c .match .rest .0 .0 .0 .0 .0 .0 .0 .0 .0 .1), ne-eqb _ _ (c .match .rest .0 .0 .0 .0 .0 .0 .0 .0 .0 .0 .1))))

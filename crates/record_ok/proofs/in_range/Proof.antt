@@ -25,37 +25,15 @@ past5 c = passes 4 _ (past4 (c .before .before)) (le-leb _ _ (c .if5 .left))
 past6 : (c : tie.Else6) → Passed 6 (rangeTests (c .before .before .before .before .before .before .before .before .before .before .before .before .before .before .args .s) (c .before .before .before .before .before .before .before .before .before .before .before .before .before .before .args .r))
 past6 c = passes 5 _ (past5 (c .before .before)) (le-leb _ _ (c .if6 .left))
 
-tid-ok-requires : tie.Need-tid-ok-requires
-tid-ok-requires c κs = search needs
-
-returns : tie.Need-returns
-unfolding inRange
-returns c = fails 0 (rangeTests (c .before .before .args .s) (c .before .before .args .r)) (none-passed _) (broke (c .before .tid-ok .ensures) (c .if1 .taken))
-
-returns-2 : tie.Need-returns-2
-unfolding inRange
-returns-2 c = fails 1 _ (past1 (c .before .before .before)) (lt-leb _ _ (c .if2 .taken))
-
-returns-3 : tie.Need-returns-3
-unfolding inRange
-returns-3 c = fails 2 _ (past2 (c .before .before .before)) (lt-leb _ _ (c .if3 .taken))
-
-returns-4 : tie.Need-returns-4
-unfolding inRange
-returns-4 c = fails 3 _ (past3 (c .before .before)) (lt-leb _ _ (c .if4 .taken))
-
-returns-5 : tie.Need-returns-5
-unfolding inRange
-returns-5 c = fails 4 _ (past4 (c .before .before)) (lt-leb _ _ (c .if5 .taken))
-
-returns-6 : tie.Need-returns-6
-unfolding inRange
-returns-6 c = fails 5 _ (past5 (c .before .before)) (lt-leb _ _ (c .if6 .taken))
-
-returns-7 : tie.Need-returns-7
-unfolding inRange
-returns-7 c = decides 6 _ _ (past6 (c .before)) refl refl
-
 pub in-range-spec : {M : Type 1} → statement M
+unfolding inRange
 in-range-spec =
-    tie.close (tie.spec tid-ok-requires returns returns-2 returns-3 returns-4 returns-5 returns-6 returns-7)
+    tie.close (tie.spec
+    (λ c κs. search needs)
+    (λ c. fails 0 (rangeTests (c .before .before .args .s) (c .before .before .args .r)) (none-passed _) (broke (c .before .tid-ok .ensures) (c .if1 .taken)))
+    (λ c. fails 1 _ (past1 (c .before .before .before)) (lt-leb _ _ (c .if2 .taken)))
+    (λ c. fails 2 _ (past2 (c .before .before .before)) (lt-leb _ _ (c .if3 .taken)))
+    (λ c. fails 3 _ (past3 (c .before .before)) (lt-leb _ _ (c .if4 .taken)))
+    (λ c. fails 4 _ (past4 (c .before .before)) (lt-leb _ _ (c .if5 .taken)))
+    (λ c. fails 5 _ (past5 (c .before .before)) (lt-leb _ _ (c .if6 .taken)))
+    (λ c. decides 6 _ _ (past6 (c .before)) refl refl))

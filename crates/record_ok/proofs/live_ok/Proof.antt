@@ -17,61 +17,19 @@ past2 c = passes 1 _ (past1 (c .before .before)) (le-leb _ _ (c .if2 .left))
 past3 : (c : tie.Else3) → Passed 3 (liveTests (now (c .before .before .before .before .before .before .before .before .args .t)) (c .before .before .before .before .before .before .before .before .args .s) (c .before .before .before .before .before .before .before .before .args .i))
 past3 c = passes 2 _ (past2 (c .before .before .before)) (rw (c .before .before .record-at .ensures) at (held (c .before .in-range .ensures) (c .if3 .left)))
 
-mul-at : tie.Need-mul-at
-mul-at c = search needs
-
-add-at : tie.Need-add-at
-add-at c = search needs
-
-shared-slice-read-if1 : tie.Need-shared-slice-read-if1
-shared-slice-read-if1 c = search needs
-
 returns : tie.Need-returns
 unfolding liveOk
 returns c =
     let a = c .before .before .before .args in
     fails 0 (liveTests (now (a .t)) (a .s) (a .i)) (none-passed _) (lt-leb _ _ (c .if1 .taken))
 
-add-if2 : tie.Need-add-if2
-add-if2 c = search needs
-
-shared-slice-read-if2 : tie.Need-shared-slice-read-if2
-shared-slice-read-if2 c = search needs
-
-returns-2 : tie.Need-returns-2
-unfolding liveOk
-returns-2 c = fails 1 _ (past1 (c .before .before)) (lt-leb _ _ (c .if2 .taken))
-
-record-at-requires : tie.Need-record-at-requires
-record-at-requires c κs = search needs
-
-in-range-requires : tie.Need-in-range-requires
-in-range-requires c κs = search needs
-
-returns-3 : tie.Need-returns-3
-unfolding liveOk
-returns-3 c = fails 2 _ (past2 (c .before .before .before)) (rw (c .before .before .record-at .ensures) at (broke (c .before .in-range .ensures) (c .if3 .taken)))
-
-spare-ok-requires : tie.Need-spare-ok-requires
-spare-ok-requires c κs = search needs
-
-returns-4 : tie.Need-returns-4
-unfolding liveOk
-returns-4 c = decides 3 _ _ (past3 (c .before)) refl (c .spare-ok .ensures)
-
 pub live-ok-spec : {M : Type 1} → statement M
+unfolding liveOk
 live-ok-spec =
-    tie.close
-    (tie.spec
-    mul-at
-    add-at
-    shared-slice-read-if1
-    returns
-    add-if2
-    shared-slice-read-if2
-    returns-2
-    record-at-requires
-    in-range-requires
-    returns-3
-    spare-ok-requires
-    returns-4)
+    tie.close (tie.spec
+    (λ c. search needs) (λ c. search needs) (λ c. search needs) returns (λ c. search needs) (λ c. search needs)
+    (λ c. fails 1 _ (past1 (c .before .before)) (lt-leb _ _ (c .if2 .taken)))
+    (λ c κs. search needs) (λ c κs. search needs)
+    (λ c. fails 2 _ (past2 (c .before .before .before)) (rw (c .before .before .record-at .ensures) at (broke (c .before .in-range .ensures) (c .if3 .taken))))
+    (λ c κs. search needs)
+    (λ c. decides 3 _ _ (past3 (c .before)) refl (c .spare-ok .ensures)))

@@ -3,13 +3,7 @@ use mathlib.Core.Path.{refl}
 use Rattle.steps.specs.Steps.{noPart}
 use Rattle.steps.proofs.no_part.Statement.{statement}
 use Rattle.steps.proofs.no_part.Tie as tie
-use Rattle.steps.proofs.no_part.Reads as reads
-use Rattle.steps.proofs.no_part.Lts as lts
-
--- src/lib.rt:68:1
-returns : tie.Need-returns
-unfolding noPart
-returns c = refl
 
 pub no-part-spec : {M : Type 1} → statement M
-no-part-spec = tie.close (tie.spec returns)
+unfolding noPart
+no-part-spec = tie.close (tie.spec (λ c. refl))

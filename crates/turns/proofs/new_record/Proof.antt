@@ -4,9 +4,6 @@ use Rattle.turns.specs.Turns.{newRecord}
 use Rattle.turns.proofs.new_record.Statement.{statement}
 use Rattle.turns.proofs.new_record.Tie as tie
 
-returns : tie.Need-returns
-unfolding newRecord
-returns c = refl
-
 pub new-record-spec : {M : Type 1} → statement M
-new-record-spec = tie.close (tie.spec returns)
+unfolding newRecord
+new-record-spec = tie.close (tie.spec (λ c. refl))

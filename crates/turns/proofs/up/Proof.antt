@@ -5,16 +5,10 @@ use Rattle.turns.specs.Turns.{upOf}
 use Rattle.turns.proofs.up.Statement.{statement}
 use Rattle.turns.proofs.up.Tie as tie
 
-add-result : tie.Need-add-result
-add-result c = search needs
-
-returns : tie.Need-returns
-unfolding upOf
-returns c = simp (lt-ltb _ _ (c .if1 .taken))
-
-returns-2 : tie.Need-returns-2
-unfolding upOf
-returns-2 c = simp (le-ltb _ _ (c .if1 .left))
-
 pub up-spec : {M : Type 1} → statement M
-up-spec = tie.close (tie.spec add-result returns returns-2)
+unfolding upOf
+up-spec =
+    tie.close (tie.spec
+    (λ c. search needs)
+    (λ c. simp (lt-ltb _ _ (c .if1 .taken)))
+    (λ c. simp (le-ltb _ _ (c .if1 .left))))

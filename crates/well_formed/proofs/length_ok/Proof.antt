@@ -13,20 +13,11 @@ past1 c = passes 0 _ (none-passed _) (le-leb _ _ (c .if1 .left))
 past2 : (c : tie.Else2) → Passed 2 (lengthTests (c .before .before .args .n))
 past2 c = passes 1 _ (past1 (c .before)) (le-leb _ _ (c .if2 .left))
 
-returns : tie.Need-returns
-unfolding lengthOk
-returns c = fails 0 (lengthTests (c .before .args .n)) (none-passed _) (lt-leb _ _ (c .if1 .taken))
-
-returns-2 : tie.Need-returns-2
-unfolding lengthOk
-returns-2 c = fails 1 _ (past1 (c .before)) (lt-leb _ _ (c .if2 .taken))
-
-sub-result : tie.Need-sub-result
-sub-result c = search needs
-
-returns-3 : tie.Need-returns-3
-unfolding lengthOk
-returns-3 c = decides 2 _ _ (past2 c) refl refl
-
 pub length-ok-spec : {M : Type 1} → statement M
-length-ok-spec = tie.close (tie.spec returns returns-2 sub-result returns-3)
+unfolding lengthOk
+length-ok-spec =
+    tie.close (tie.spec
+    (λ c. fails 0 (lengthTests (c .before .args .n)) (none-passed _) (lt-leb _ _ (c .if1 .taken)))
+    (λ c. fails 1 _ (past1 (c .before)) (lt-leb _ _ (c .if2 .taken)))
+    (λ c. search needs)
+    (λ c. decides 2 _ _ (past2 c) refl refl))

@@ -15,26 +15,13 @@ past1 c = passes 0 _ (none-passed _) (held (c .before .length-ok .ensures) (c .i
 past2 : (c : tie.Else2) → Passed 2 (sizeTests (c .before .before .before .args .table) (c .before .before .before .args .store) (c .before .before .before .args .output))
 past2 c = passes 1 _ (past1 (c .before)) (eq-eqb _ _ (c .if2 .left))
 
-length-ok-requires : tie.Need-length-ok-requires
-length-ok-requires c κs = search needs
-
-returns : tie.Need-returns
-unfolding sizesOk
-returns c = fails 0 (sizeTests (c .before .before .args .table) (c .before .before .args .store) (c .before .before .args .output)) (none-passed _) (broke (c .before .length-ok .ensures) (c .if1 .taken))
-
-sub-if2 : tie.Need-sub-if2
-sub-if2 c = omega (arith, length-to _ (held (c .before .length-ok .ensures) (c .if1 .left)))
-
-mul-if2 : tie.Need-mul-if2
-mul-if2 c = omega (arith, length-to _ (held (c .before .length-ok .ensures) (c .if1 .left)))
-
-returns-2 : tie.Need-returns-2
-unfolding sizesOk
-returns-2 c = fails 1 _ (past1 (c .before)) (ne-eqb _ _ (c .if2 .taken))
-
-returns-3 : tie.Need-returns-3
-unfolding sizesOk
-returns-3 c = decides 2 _ _ (past2 c) refl refl
-
 pub sizes-ok-spec : {M : Type 1} → statement M
-sizes-ok-spec = tie.close (tie.spec length-ok-requires returns sub-if2 mul-if2 returns-2 returns-3)
+unfolding sizesOk
+sizes-ok-spec =
+    tie.close (tie.spec
+    (λ c κs. search needs)
+    (λ c. fails 0 (sizeTests (c .before .before .args .table) (c .before .before .args .store) (c .before .before .args .output)) (none-passed _) (broke (c .before .length-ok .ensures) (c .if1 .taken)))
+    (λ c. omega (arith, length-to _ (held (c .before .length-ok .ensures) (c .if1 .left))))
+    (λ c. omega (arith, length-to _ (held (c .before .length-ok .ensures) (c .if1 .left))))
+    (λ c. fails 1 _ (past1 (c .before)) (ne-eqb _ _ (c .if2 .taken)))
+    (λ c. decides 2 _ _ (past2 c) refl refl))

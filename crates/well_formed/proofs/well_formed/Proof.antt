@@ -22,51 +22,17 @@ past2 c = passes 1 _ (past1 (c .before .before)) (held (c .before .header-ok .en
 past3 : (c : tie.Else3) → Passed 3 (tableTests (now (c .before .before .before .before .before .before .before .before .args .t)))
 past3 c = passes 2 _ (past2 (c .before .before .before)) (rw (c .before .before .settings-of .ensures) at (held (c .before .records-ok .ensures) (c .if3 .left)))
 
-length-ok-requires : tie.Need-length-ok-requires
-length-ok-requires c κs = search needs
-
-returns : tie.Need-returns
-unfolding wellFormed
-returns c = fails 0 (tableTests (now (c .before .before .before .args .t))) (none-passed _) (broke (c .before .length-ok .ensures) (c .if1 .taken))
-
-header-ok-requires : tie.Need-header-ok-requires
-header-ok-requires c κs = omega (arith, whole c)
-
-returns-2 : tie.Need-returns-2
-unfolding wellFormed
-returns-2 c = fails 1 _ (past1 (c .before .before)) (broke (c .before .header-ok .ensures) (c .if2 .taken))
-
-sub-n : tie.Need-sub-n
-sub-n c = omega (arith, whole (c .before .before))
-
-settings-of-requires : tie.Need-settings-of-requires
-settings-of-requires c κs = omega (arith, whole (c .before .before))
-
-records-ok-requires : tie.Need-records-ok-requires
-records-ok-requires c κs = omega (arith, whole (c .before .before .before))
-
-returns-3 : tie.Need-returns-3
-unfolding wellFormed
-returns-3 c = fails 2 _ (past2 (c .before .before .before)) (rw (c .before .before .settings-of .ensures) at (broke (c .before .records-ok .ensures) (c .if3 .taken)))
-
-names-ok-requires : tie.Need-names-ok-requires
-names-ok-requires c κs = omega (arith, whole (c .before .before .before .before .before))
-
-returns-4 : tie.Need-returns-4
-unfolding wellFormed
-returns-4 c = decides 3 _ _ (past3 (c .before)) refl (c .names-ok .ensures)
-
 pub well-formed-spec : {M : Type 1} → statement M
+unfolding wellFormed
 well-formed-spec =
-    tie.close
-    (tie.spec
-    length-ok-requires
-    returns
-    header-ok-requires
-    returns-2
-    sub-n
-    settings-of-requires
-    records-ok-requires
-    returns-3
-    names-ok-requires
-    returns-4)
+    tie.close (tie.spec
+    (λ c κs. search needs)
+    (λ c. fails 0 (tableTests (now (c .before .before .before .args .t))) (none-passed _) (broke (c .before .length-ok .ensures) (c .if1 .taken)))
+    (λ c κs. omega (arith, whole c))
+    (λ c. fails 1 _ (past1 (c .before .before)) (broke (c .before .header-ok .ensures) (c .if2 .taken)))
+    (λ c. omega (arith, whole (c .before .before)))
+    (λ c κs. omega (arith, whole (c .before .before)))
+    (λ c κs. omega (arith, whole (c .before .before .before)))
+    (λ c. fails 2 _ (past2 (c .before .before .before)) (rw (c .before .before .settings-of .ensures) at (broke (c .before .records-ok .ensures) (c .if3 .taken))))
+    (λ c κs. omega (arith, whole (c .before .before .before .before .before)))
+    (λ c. decides 3 _ _ (past3 (c .before)) refl (c .names-ok .ensures)))
