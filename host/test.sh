@@ -1,5 +1,5 @@
 #!/usr/bin/env bash
-# Tests what the programs of cases are expected to print, the Rust code over the proved library, the programs from outside, and the samples
+# Tests what the programs of cases are expected to print, crates.txt, the Rust code over the proved library, the programs from outside, and the samples
 # of docs/OUTCOMES.md; the last line counts the cases.
 set -euo pipefail
 cd "$(dirname "$0")/.."
@@ -15,6 +15,7 @@ has python3 || fetch python3
 for script in bench_cases codec_cases damage scenarios; do
     check "tests/$script.py: what is expected is what document 01 says, as read there" python3 "tests/$script.py" --check
 done
+check "crates.txt names the crates that are needed" python3 scripts/crates.py --check
 
 library
 logs="$CARGO_TARGET_DIR/tests"
