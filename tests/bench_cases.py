@@ -1,5 +1,5 @@
 #!/usr/bin/env python3
-"""Writes what the engine's bench cases without a star must give: crates/bench_cases/stdout.
+"""Writes what the engine's bench cases without a star must give: crates/case_bench/stdout.
 
 What they must give is what the engine of tests/engine.py gives, an independent reading of document 01; beside each line stands what
 document 01 says of it.
@@ -28,7 +28,7 @@ fired = timer(ends[0], 1000)[1]
 assert fired.fired and not fired.sent, "RCR_MAX 0 sends one Invoke"
 text = "data 1,025: %d\ndata 1,024, 49 times: %s\n" % (too_long, "".join(map(str, longest)))
 text += "RCR_MAX 0, interval over: fired %d, sent %d\n" % (fired.fired is not None, len(fired.sent))
-path = pathlib.Path(__file__).resolve().parent.parent / "crates" / "bench_cases" / "stdout"
+path = pathlib.Path(__file__).resolve().parent.parent / "crates" / "case_bench" / "stdout"
 if "--check" in sys.argv[1:]:
     sys.exit(0 if path.read_text() == text else "bench_cases: stdout differs from document 01 as read here")
 path.write_text(text)

@@ -1,5 +1,5 @@
 #!/usr/bin/env python3
-"""Writes the codec cases and what they must give: crates/codec_cases/stdin and stdout.
+"""Writes the codec cases and what they must give: crates/case_codec/stdin and stdout.
 
 An independent reading of document 01 ("Bytes on the air", bench cases) and of the C interface's words: nothing
 here is taken from the definitions or the code, so the program's output is compared with a second opinion.
@@ -299,7 +299,7 @@ def datagrams():
 reading()
 writing()
 datagrams()
-crate = pathlib.Path(__file__).resolve().parent.parent / "crates" / "codec_cases"
+crate = pathlib.Path(__file__).resolve().parent.parent / "crates" / "case_codec"
 files = {"stdin": "\n".join(lines) + "\n", "stdout": "\n".join(expected) + "\n"}
 if "--check" in sys.argv[1:]:
     wrong = [name for name, text in files.items() if (crate / name).read_text() != text]

@@ -1,5 +1,5 @@
 #!/usr/bin/env python3
-"""Writes what the damage program must print: crates/damage/stdout.
+"""Writes what the damage program must print: crates/case_damage/stdout.
 
 An independent reading of document 01's "well formed" over the layout of docs/TABLE.md; nothing here is taken from the definitions or the code.
 usage: tests/damage.py [--check]
@@ -70,7 +70,7 @@ text = ["a fresh table of two records"] + damaged(table)
 table[HEADER], table[HEADER + RECORD], table[HEADER + RECORD + 1] = 2, 2, 1
 text += ["the same with both records live"] + damaged(table)
 text = "\n".join(text) + "\n"
-path = pathlib.Path(__file__).resolve().parent.parent / "crates" / "damage" / "stdout"
+path = pathlib.Path(__file__).resolve().parent.parent / "crates" / "case_damage" / "stdout"
 if "--check" in sys.argv[1:]:
     sys.exit(0 if path.read_text() == text else "damage: stdout differs from document 01 as read here")
 path.write_text(text)

@@ -1,4 +1,4 @@
-"""How the programs of cases print octets (crates/lines, host/scenarios)."""
+"""How the programs of cases print octets (crates/case_lines, host/scenarios)."""
 
 
 def text_of(octets):

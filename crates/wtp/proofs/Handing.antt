@@ -6,11 +6,11 @@ use mathlib.Core.List.{List}
 use lib.ListN.{length}
 use lib.Dec.{ltb}
 use borrow.Author.Tests.{ltb-false}
-use Rattle.numbers.specs.Numbers.{numberOf}
-use Rattle.numbers.specs.declared.Refusal.the-variants.{WrongSize}
-use Rattle.carry.specs.Carry.{Lent, Done, done}
-use Rattle.carry.specs.declared.Answer.{Answer}
-use Rattle.answers.specs.Answers.{answerNumber, answerAfter}
+use Rattle.base_numbers.specs.Numbers.{numberOf}
+use Rattle.base_numbers.specs.declared.Refusal.the-variants.{WrongSize}
+use Rattle.step_outcome.specs.Carry.{Lent, Done, done}
+use Rattle.step_outcome.specs.declared.Answer.{Answer}
+use Rattle.c_answers.specs.Answers.{answerNumber, answerAfter}
 use Rattle.wtp.specs.Engine.{called, handed, orSmall}
 
 module _ (words : List ℕ) (few : Bool) (size : few ≡ ltb (length words) 32) where

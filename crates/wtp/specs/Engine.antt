@@ -3,12 +3,12 @@ use Prim.Native.Nat.{ℕ}
 use mathlib.Core.List.{List}
 use lib.ListN.{length}
 use lib.Dec.{ltb}
-use Rattle.numbers.specs.Numbers.{numberOf}
-use Rattle.numbers.specs.declared.Refusal.the-variants.{WrongSize}
-use Rattle.carry.specs.Carry.{Lent, Done}
-use Rattle.calls.specs.Calls.{asRequest, asAnswer, asResult, asAbort, requested, primitived, received, fired}
-use Rattle.answers.specs.Answers.{answerNumber, answerAfter}
-use Rattle.codec_calls.specs.Calls.{orSize}
+use Rattle.base_numbers.specs.Numbers.{numberOf}
+use Rattle.base_numbers.specs.declared.Refusal.the-variants.{WrongSize}
+use Rattle.step_outcome.specs.Carry.{Lent, Done}
+use Rattle.call_engine.specs.Calls.{asRequest, asAnswer, asResult, asAbort, requested, primitived, received, fired}
+use Rattle.c_answers.specs.Answers.{answerNumber, answerAfter}
+use Rattle.c_codec.specs.Calls.{orSize}
 
 -- all that a caller sees of a call
 pub record Called : Type 0 where

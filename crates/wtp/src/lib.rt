@@ -3,18 +3,18 @@ ghost use mathlib.Core.Path.{_≡_};
 ghost use mathlib.Core.List.{[]};
 ghost use lib.ListN.{length};
 ghost use lib.Dec.{ltb};
-ghost use Rattle.carry.specs.Carry.{lent};
-ghost use Rattle.fresh.specs.Fresh.{tableBytes, freshAnswer, freshNumber, tableAfter};
-ghost use Rattle.codec_calls.specs.Calls.{readNumber, fieldsAfter, writeNumber, writeOutput, writeAnswer, separateNumber, partAfter, joinNumber, joinOutput, joinAnswer};
+ghost use Rattle.step_outcome.specs.Carry.{lent};
+ghost use Rattle.table_fresh.specs.Fresh.{tableBytes, freshAnswer, freshNumber, tableAfter};
+ghost use Rattle.c_codec.specs.Calls.{readNumber, fieldsAfter, writeNumber, writeOutput, writeAnswer, separateNumber, partAfter, joinNumber, joinOutput, joinAnswer};
 ghost use Rattle.wtp.specs.Engine.{called, requestCalled, answerCalled, resultCalled, abortCalled, receiveCalled, timerCalled};
-use numbers::Refusal;
+use base_numbers::Refusal;
 
 // The bytes of a table for 1 to 48 records, else 0.
 #[no_mangle]
 pub extern "C" fn wtp_table_bytes(records: u64) -> u64
     ensures { λ r. ⌜ r ≡ tableBytes records ⌝ }
 {
-    fresh::table_bytes(records)
+    table_fresh::table_bytes(records)
 }
 
 // Makes a table fresh.
@@ -22,7 +22,7 @@ pub extern "C" fn wtp_table_bytes(records: u64) -> u64
 pub extern "C" fn wtp_fresh(table: &mut [u8], settings: &[u64], first_tid: u64) -> u64
     ensures { λ r. ⌜ (r ≡ freshNumber (freshAnswer (length (now (table .entry))) (now (settings .entry)) «first_tid»)) × (now (table .exit) ≡ tableAfter (freshAnswer (length (now (table .entry))) (now (settings .entry)) «first_tid») (now (table .entry)) (now (settings .entry)) «first_tid») ⌝ }
 {
-    codec_calls::make_fresh(table, settings, first_tid)
+    c_codec::make_fresh(table, settings, first_tid)
 }
 
 // Reads a PDU into 88 words.
@@ -30,7 +30,7 @@ pub extern "C" fn wtp_fresh(table: &mut [u8], settings: &[u64], first_tid: u64) 
 pub extern "C" fn wtp_read(octets: &[u8], fields: &mut [u64]) -> u64
     ensures { λ r. ⌜ (r ≡ readNumber (now (octets .entry)) (now (fields .entry))) × (now (fields .exit) ≡ fieldsAfter (now (octets .entry)) (now (fields .entry))) ⌝ }
 {
-    codec_calls::read(octets, fields)
+    c_codec::read(octets, fields)
 }
 
 // Writes the PDU that 88 words say, whose parts lie in `bytes`, at the start of the output.
@@ -38,7 +38,7 @@ pub extern "C" fn wtp_read(octets: &[u8], fields: &mut [u64]) -> u64
 pub extern "C" fn wtp_write(fields: &[u64], bytes: &[u8], out: &mut [u8], answer: &mut [u64]) -> u64
     ensures { λ r. ⌜ (r ≡ writeNumber (now (fields .entry)) (now (bytes .entry)) (now (out .entry)) (now (answer .entry))) × (now (out .exit) ≡ writeOutput (now (fields .entry)) (now (bytes .entry)) (now (out .entry)) (now (answer .entry))) × (now (answer .exit) ≡ writeAnswer (now (fields .entry)) (now (bytes .entry)) (now (out .entry)) (now (answer .entry))) ⌝ }
 {
-    codec_calls::write(fields, bytes, out, answer)
+    c_codec::write(fields, bytes, out, answer)
 }
 
 // Separates a datagram: start and length of its k-th PDU, and how many there are.
@@ -46,7 +46,7 @@ pub extern "C" fn wtp_write(fields: &[u64], bytes: &[u8], out: &mut [u8], answer
 pub extern "C" fn wtp_separate(datagram: &[u8], k: u64, part: &mut [u64]) -> u64
     ensures { λ r. ⌜ (r ≡ separateNumber (now (datagram .entry)) k (now (part .entry))) × (now (part .exit) ≡ partAfter (now (datagram .entry)) k (now (part .entry))) ⌝ }
 {
-    codec_calls::separate(datagram, k, part)
+    c_codec::separate(datagram, k, part)
 }
 
 // Joins PDUs of these lengths, one after the other in `bytes`, to a datagram at the start of the output.
@@ -54,7 +54,7 @@ pub extern "C" fn wtp_separate(datagram: &[u8], k: u64, part: &mut [u64]) -> u64
 pub extern "C" fn wtp_join(bytes: &[u8], lengths: &[u64], out: &mut [u8], answer: &mut [u64]) -> u64
     ensures { λ r. ⌜ (r ≡ joinNumber (now (bytes .entry)) (now (lengths .entry)) (now (out .entry)) (now (answer .entry))) × (now (out .exit) ≡ joinOutput (now (bytes .entry)) (now (lengths .entry)) (now (out .entry)) (now (answer .entry))) × (now (answer .exit) ≡ joinAnswer (now (bytes .entry)) (now (lengths .entry)) (now (out .entry)) (now (answer .entry))) ⌝ }
 {
-    codec_calls::join(bytes, lengths, out, answer)
+    c_codec::join(bytes, lengths, out, answer)
 }
 
 // The words of an answer are fewer than 32.
@@ -80,10 +80,10 @@ pub extern "C" fn wtp_request(
     ensures { λ r. ⌜ called r (now (table .exit)) (now (store .exit)) (now (out .exit)) (now (answer .exit)) ≡ requestCalled (lent (now (table .entry)) (now (store .entry)) (now (out .entry)) (now (user .entry)) []) (now (answer .entry)) time peer class «user_ack» ⌝ }
 {
     if too_few(answer) {
-        return numbers::number(Refusal::WrongSize);
+        return base_numbers::number(Refusal::WrongSize);
     }
-    let a = calls::request(table, store, out, time, peer, class, 0 < user_ack, user);
-    answers::give(answer, a)
+    let a = call_engine::request(table, store, out, time, peer, class, 0 < user_ack, user);
+    c_answers::give(answer, a)
 }
 
 // A user's answer with exit information.
@@ -102,10 +102,10 @@ pub extern "C" fn wtp_answer(
     ensures { λ r. ⌜ called r (now (table .exit)) (now (store .exit)) (now (out .exit)) (now (answer .exit)) ≡ answerCalled (lent (now (table .entry)) (now (store .entry)) (now (out .entry)) [] (now (exit .entry))) (now (answer .entry)) time role peer tid ⌝ }
 {
     if too_few(answer) {
-        return numbers::number(Refusal::WrongSize);
+        return base_numbers::number(Refusal::WrongSize);
     }
-    let a = calls::answer(table, store, out, time, role, peer, tid, exit);
-    answers::give(answer, a)
+    let a = call_engine::answer(table, store, out, time, role, peer, tid, exit);
+    c_answers::give(answer, a)
 }
 
 // A user's result with its data.
@@ -124,10 +124,10 @@ pub extern "C" fn wtp_result(
     ensures { λ r. ⌜ called r (now (table .exit)) (now (store .exit)) (now (out .exit)) (now (answer .exit)) ≡ resultCalled (lent (now (table .entry)) (now (store .entry)) (now (out .entry)) (now (user .entry)) []) (now (answer .entry)) time role peer tid ⌝ }
 {
     if too_few(answer) {
-        return numbers::number(Refusal::WrongSize);
+        return base_numbers::number(Refusal::WrongSize);
     }
-    let a = calls::result(table, store, out, time, role, peer, tid, user);
-    answers::give(answer, a)
+    let a = call_engine::result(table, store, out, time, role, peer, tid, user);
+    c_answers::give(answer, a)
 }
 
 // A user's abort with its reason.
@@ -146,10 +146,10 @@ pub extern "C" fn wtp_abort(
     ensures { λ r. ⌜ called r (now (table .exit)) (now (store .exit)) (now (out .exit)) (now (answer .exit)) ≡ abortCalled (lent (now (table .entry)) (now (store .entry)) (now (out .entry)) [] []) (now (answer .entry)) time role peer tid reason ⌝ }
 {
     if too_few(answer) {
-        return numbers::number(Refusal::WrongSize);
+        return base_numbers::number(Refusal::WrongSize);
     }
-    let a = calls::abort(table, store, out, time, role, peer, tid, reason);
-    answers::give(answer, a)
+    let a = call_engine::abort(table, store, out, time, role, peer, tid, reason);
+    c_answers::give(answer, a)
 }
 
 // One PDU that came from a peer.
@@ -166,10 +166,10 @@ pub extern "C" fn wtp_receive(
     ensures { λ r. ⌜ called r (now (table .exit)) (now (store .exit)) (now (out .exit)) (now (answer .exit)) ≡ receiveCalled (lent (now (table .entry)) (now (store .entry)) (now (out .entry)) (now (octets .entry)) []) (now (answer .entry)) time peer ⌝ }
 {
     if too_few(answer) {
-        return numbers::number(Refusal::WrongSize);
+        return base_numbers::number(Refusal::WrongSize);
     }
-    let a = calls::receive(table, store, out, time, peer, octets);
-    answers::give(answer, a)
+    let a = call_engine::receive(table, store, out, time, peer, octets);
+    c_answers::give(answer, a)
 }
 
 // Fires one due record.
@@ -184,8 +184,8 @@ pub extern "C" fn wtp_timer(
     ensures { λ r. ⌜ called r (now (table .exit)) (now (store .exit)) (now (out .exit)) (now (answer .exit)) ≡ timerCalled (lent (now (table .entry)) (now (store .entry)) (now (out .entry)) [] []) (now (answer .entry)) time ⌝ }
 {
     if too_few(answer) {
-        return numbers::number(Refusal::WrongSize);
+        return base_numbers::number(Refusal::WrongSize);
     }
-    let a = calls::timer(table, store, out, time);
-    answers::give(answer, a)
+    let a = call_engine::timer(table, store, out, time);
+    c_answers::give(answer, a)
 }

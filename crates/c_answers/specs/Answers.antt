@@ -1,0 +1,63 @@
+-- The C interface's result and 32 words of an answer (01, "Numbers given back": "at most one PDU", "at most two indications, in order").
+use Prim.Native.Nat.{ℕ, _+_}
+use mathlib.Core.Path.{_≡_}
+use mathlib.Core.List.{List, [], _∷_, _++_}
+use Rattle.base_lists.specs.Seq.{put}
+use Rattle.base_numbers.specs.Numbers.{numberOf}
+use Rattle.table_record.specs.Record.{roleNumber}
+use Rattle.step_shown.specs.declared.Shown.{Shown}
+use Rattle.step_shown.specs.Kinds.{byKind}
+use Rattle.step_shown.specs.Words.{shownWords}
+use Rattle.step_plan.specs.declared.Told.{Told}
+use Rattle.step_plan.specs.declared.Told.the-variants.{Nothing, Tid, Fired}
+use Rattle.step_outcome.specs.declared.Answer.{Answer}
+use Rattle.step_outcome.specs.declared.Answer.the-variants.{Refused, Taken}
+
+-- nothing is no indication, all else is one
+abbrev pub shownCount : Shown → ℕ
+shownCount s = byKind 0 1 1 1 1 s
+
+-- the C interface: word 2, "the TID given to the request; else 0"
+abbrev pub toldTid : Told → ℕ
+toldTid Nothing = 0
+toldTid (Tid tid) = tid
+toldTid (Fired role peer tid) = 0
+
+-- the C interface: word 3, "1 a record was fired, 0 none was due; else 0"
+abbrev pub toldFired : Told → ℕ
+toldFired Nothing = 0
+toldFired (Tid tid) = 0
+toldFired (Fired role peer tid) = 1
+
+-- the C interface: words 0 to 3, "bytes sent", "indications, 0 to 2", and the two above
+unfoldable pub headWords : ℕ → Told → Shown → Shown → List ℕ
+headWords sent told first second = sent ∷ (shownCount first + shownCount second) ∷ toldTid told ∷ toldFired told ∷ []
+
+-- the C interface: words 28 to 30, "role, peer and TID of the record that was fired .. else 0", and word 31, 0
+unfoldable pub recordWords : Told → List ℕ
+recordWords Nothing = 0 ∷ 0 ∷ 0 ∷ 0 ∷ []
+recordWords (Tid tid) = 0 ∷ 0 ∷ 0 ∷ 0 ∷ []
+recordWords (Fired role peer tid) = roleNumber role ∷ peer ∷ tid ∷ 0 ∷ []
+
+-- the 32 words: "in order", the first indication before the second
+unfoldable pub answerWords : ℕ → Told → Shown → Shown → List ℕ
+answerWords sent told first second = headWords sent told first second ++ (shownWords first ++ (shownWords second ++ recordWords told))
+
+-- the C interface: "The result is 0 where the call was accepted", else the refusal's number
+unfoldable pub answerNumber : Answer → ℕ
+answerNumber (Refused r) = numberOf r
+answerNumber (Taken sent told first second) = 0
+
+-- 01: "A refusal gives only its number"; the C interface: "An accepted call writes the first 32 .. words and leaves the rest"
+unfoldable pub answerAfter : Answer → List ℕ → List ℕ
+answerAfter (Refused r) words = words
+answerAfter (Taken sent told first second) words = put words 0 (answerWords sent told first second)
+
+-- the same answer to a caller: octets sent, TID, record fired, and what is shown
+pub record SameAnswer (sent : ℕ) (told : Told) (first second : Shown) (sent₁ : ℕ) (told₁ : Told) (first₁ second₁ : Shown) : Type 0 where
+  pub sent-same : sent ≡ sent₁
+  pub tid-same : toldTid told ≡ toldTid told₁
+  pub fired-same : toldFired told ≡ toldFired told₁
+  pub record-same : recordWords told ≡ recordWords told₁
+  pub first-same : first ≡ first₁
+  pub second-same : second ≡ second₁

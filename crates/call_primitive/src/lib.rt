@@ -1,0 +1,211 @@
+// What a user's answer, result or abort will do: the three primitives that name a record.
+ghost use mathlib.Core.Path.{_≡_};
+ghost use Prim.Native.Nat.{_≤_};
+ghost use mathlib.Core.Bool.{not};
+ghost use Rattle.table_finding.specs.Finding.{isFound, Within};
+ghost use Rattle.call_primitive.specs.Primitives.{Named, namedBy, isResponder, exitRefused, tooMuch, refusesRow, notAllowed, entryTests, foundTests, primitiveStep, foundFor, foundPlan, primitivePlan};
+ghost use Rattle.table_ranges.specs.Ranges.{timeBound, cellSize, exitBound};
+ghost use Rattle.table_well_formed.specs.WellFormed.{WellFormed};
+ghost use Rattle.call_refusal.specs.Judging.{lowest};
+use base_numbers::Refusal;
+use call_refusal::Judged;
+use row_events::Event;
+use row_events::Row;
+use row_turns::Given;
+use step_plan::Call;
+use step_plan::Part;
+use step_plan::Plan;
+use step_plan::Step;
+use step_plan::Tells;
+use table_finding::Found;
+use table_record::Role;
+
+// A primitive: which, when, the record it names, an abort's reason, the lengths of its data and of its exit information.
+pub struct Primitive {
+    pub event: Event,
+    pub time: u64,
+    pub role: u64,
+    pub peer: u64,
+    pub tid: u64,
+    pub reason: u8,
+    pub len: usize,
+    pub exit_len: usize,
+}
+
+// The record that a primitive names; a role other than 0 and 1 names none.
+fn named_by(t: &[u8], role: u64, peer: u64, tid: u64) -> Found
+    requires { ⌜ WellFormed (now t) ⌝ }
+    ensures { λ r. ⌜ r ≡ namedBy (now (t .entry)) role peer tid ⌝ }
+{
+    if role == 0 {
+        return table_finding::named(t, call_refusal::records(t), Role::Initiator, peer, tid);
+    }
+    if role == 1 {
+        return table_finding::named(t, call_refusal::records(t), Role::Responder, peer, tid);
+    }
+    Found::Nothing
+}
+
+// A live class 2 responder record takes no exit information.
+fn exit_refused(t: &[u8], found: Found) -> bool
+    requires { ⌜ Within (now t) found ⌝ }
+    ensures { λ r. ⌜ r ≡ exitRefused (now (t .entry)) found ⌝ }
+{
+    match found {
+        Found::At(i) => {
+            let r = table_layout::record_at(t, i);
+            let state = r.state;
+            if table_record::class_of(state) == 2 {
+                is_responder(table_record::role_of(state))
+            } else {
+                false
+            }
+        }
+        Found::Nothing => false,
+    }
+}
+
+fn is_responder(role: Role) -> bool
+    ensures { λ r. ⌜ r ≡ isResponder role ⌝ }
+{
+    match role {
+        Role::Initiator => false,
+        Role::Responder => true,
+    }
+}
+
+// Number 4: too much data or exit information, or exit information where none may be.
+fn too_much(t: &[u8], p: Primitive, found: Found) -> bool
+    requires { ⌜ Within (now t) found ⌝ }
+    ensures { λ r. ⌜ r ≡ tooMuch (now (t .entry)) p found ⌝ }
+{
+    if 1024 < p.len {
+        return true;
+    }
+    if 128 < p.exit_len {
+        return true;
+    }
+    if 0 < p.exit_len {
+        return exit_refused(t, found);
+    }
+    false
+}
+
+// The row of a primitive that isn't allowed.
+fn refuses(row: Row) -> bool
+    ensures { λ r. ⌜ r ≡ refusesRow row ⌝ }
+{
+    match row {
+        Row::NotAllowed => true,
+        _ => false,
+    }
+}
+
+// Number 9: the row of the primitive in the record's state.
+fn not_allowed(t: &[u8], found: Found, event: Event) -> bool
+    requires { ⌜ Within (now t) found ⌝ }
+    ensures { λ r. ⌜ r ≡ notAllowed (now (t .entry)) found event ⌝ }
+{
+    match found {
+        Found::At(i) => refuses(step_live::row_at(t, i, event)),
+        Found::Nothing => false,
+    }
+}
+
+// The lowest of the numbers 1 to 3 that applies.
+fn judged(t: &[u8], store: usize, output: usize, p: Primitive) -> Judged
+    ensures { λ r. ⌜ r ≡ lowest (entryTests (now (t .entry)) store output p) ⌝ }
+{
+    if !table_well_formed::fits(t, store, output) {
+        return Judged::Refuse(Refusal::WrongSize);
+    }
+    if call_refusal::late(t, p.time) {
+        return Judged::Refuse(Refusal::WrongTime);
+    }
+    if 255 < p.peer {
+        return Judged::Refuse(Refusal::PeerTooLarge);
+    }
+    Judged::Accept
+}
+
+fn nobody(found: Found) -> bool
+    ensures { λ r. ⌜ r ≡ not (isFound found) ⌝ }
+{
+    match found {
+        Found::At(_) => false,
+        Found::Nothing => true,
+    }
+}
+
+// The lowest of the numbers 4, 8, 9 that applies, with the named record found.
+fn judged_found(t: &[u8], found: Found, p: Primitive) -> Judged
+    requires { ⌜ Within (now t) found ⌝ }
+    ensures { λ r. ⌜ r ≡ lowest (foundTests (now (t .entry)) found p) ⌝ }
+{
+    let event = p.event;
+    if too_much(t, p, found) {
+        return Judged::Refuse(Refusal::TooLong);
+    }
+    if nobody(found) {
+        return Judged::Refuse(Refusal::NoRecord);
+    }
+    if not_allowed(t, found, event) {
+        return Judged::Refuse(Refusal::NotAllowed);
+    }
+    Judged::Accept
+}
+
+// The step of an accepted primitive: of the record at this place.
+fn step_for(t: &[u8], place: usize, p: Primitive) -> Step
+    requires { ⌜ WellFormed (now t) ⌝ }
+    requires { ⌜ Named (now t) p place ⌝ }
+    requires { ⌜ (p .time ≤ timeBound) × (p .len ≤ cellSize) × (p .«exit_len» ≤ exitBound) ⌝ }
+    ensures { λ r. ⌜ r ≡ primitiveStep (now (t .entry)) place p ⌝ }
+{
+    let event = p.event;
+    let none = step_plan::no_part();
+    let g = Given {
+        time: p.time,
+        kind: 0,
+        reason: p.reason,
+        len: p.len as u32,
+        exit_len: p.exit_len as u8,
+    };
+    let c = Call {
+        message: Part {
+            start: 0,
+            len: p.len,
+        },
+        info: none,
+        user: none,
+        tells: Tells::Nothing,
+    };
+    step_live::live_step(t, place, event, g, c)
+}
+
+// With the named record found: a number, or the step.
+fn with_found(t: &[u8], found: Found, p: Primitive) -> Plan
+    requires { ⌜ WellFormed (now t) ⌝ }
+    requires { ⌜ found ≡ foundFor (now t) p ⌝ }
+    requires { ⌜ p .time ≤ timeBound ⌝ }
+    ensures { λ r. ⌜ r ≡ foundPlan (now (t .entry)) found p ⌝ }
+{
+    match judged_found(t, found, p) {
+        Judged::Refuse(r) => Plan::Refuse(r),
+        Judged::Accept => {
+            let place = step_opening::place_for(found);
+            let step = step_for(t, place, p);
+            Plan::Go(step)
+        }
+    }
+}
+
+// A primitive over a store and an output of these lengths.
+pub fn planned(t: &[u8], store: usize, output: usize, p: Primitive) -> Plan
+    ensures { λ r. ⌜ r ≡ primitivePlan (now (t .entry)) store output p ⌝ }
+{
+    match judged(t, store, output, p) {
+        Judged::Refuse(r) => Plan::Refuse(r),
+        Judged::Accept => with_found(t, named_by(t, p.role, p.peer, p.tid), p),
+    }
+}

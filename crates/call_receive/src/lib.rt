@@ -1,0 +1,243 @@
+// What a received PDU will do.
+ghost use mathlib.Core.Path.{_≡_};
+ghost use Prim.Native.Nat.{_≤_, _<_};
+ghost use lib.ListN.{length};
+ghost use Rattle.table_ranges.specs.Ranges.{timeBound, tidBound, recordsBound};
+ghost use Rattle.table_layout.specs.Table.{count, recordAt};
+ghost use Rattle.table_well_formed.specs.WellFormed.{WellFormed};
+ghost use Rattle.call_refusal.specs.Judging.{lowest};
+ghost use Rattle.call_receive.specs.Receives.{receiveTests, keptPart, takenStep, isFull, isValid, noWish, wishOf, arriverOf, openedStep, unmatchedStep, namingStep, receiveStep, receivePlan};
+use base_numbers::Refusal;
+use call_refusal::Judged;
+use codec_pdu::Kind;
+use codec_pdu::Pdu;
+use row_events::Opening;
+use row_turns::Given;
+use step_arrivals::Name;
+use step_commit::Header;
+use step_plan::Call;
+use step_plan::Holder;
+use step_plan::Part;
+use step_plan::Plan;
+use step_plan::Step;
+use step_plan::Tells;
+use table_finding::Found;
+use table_record::Role;
+use table_tids::Test;
+
+// The lowest number that applies.
+fn judged(t: &[u8], store: usize, output: usize, time: u64, peer: u64, len: usize) -> Judged
+    ensures { λ r. ⌜ r ≡ lowest (receiveTests (now (t .entry)) store output time peer len) ⌝ }
+{
+    if !table_well_formed::fits(t, store, output) {
+        return Judged::Refuse(Refusal::WrongSize);
+    }
+    if call_refusal::late(t, time) {
+        return Judged::Refuse(Refusal::WrongTime);
+    }
+    if 255 < peer {
+        return Judged::Refuse(Refusal::PeerTooLarge);
+    }
+    if len == 0 {
+        return Judged::Refuse(Refusal::WrongLength);
+    }
+    if 1500 < len {
+        return Judged::Refuse(Refusal::WrongLength);
+    }
+    Judged::Accept
+}
+
+// A PDU that comes to the live record at a place.
+fn taken(t: &[u8], place: usize, time: u64, p: Pdu) -> Step
+    requires { ⌜ WellFormed (now t) ⌝ }
+    requires { ⌜ (place < count (now t)) × (recordAt (now t) place .tid ≤ tidBound) × (time ≤ timeBound) ⌝ }
+    ensures { λ r. ⌜ r ≡ takenStep (now (t .entry)) place time p ⌝ }
+{
+    let event = step_arrivals::event_of(p);
+    let cause = step_arrivals::abort_of(p);
+    let info = step_arrivals::info_of(p);
+    let none = step_plan::no_part();
+    let g = Given {
+        time: time,
+        kind: cause.abort_type,
+        reason: cause.reason,
+        len: 0,
+        exit_len: 0,
+    };
+    let c = Call {
+        message: none,
+        info: Part {
+            start: info.start,
+            len: info.len,
+        },
+        user: Part {
+            start: p.start,
+            len: p.len,
+        },
+        tells: Tells::Nothing,
+    };
+    step_live::live_step(t, place, event, g, c)
+}
+
+// The data of an Invoke that may be kept: one of more than 1,024 octets is kept nowhere.
+fn kept_part(p: Pdu) -> Part
+    ensures { λ r. ⌜ r ≡ keptPart p ⌝ }
+{
+    if 1024 < p.len {
+        return step_plan::no_part();
+    }
+    Part {
+        start: p.start,
+        len: p.len,
+    }
+}
+
+// Whether no record is free.
+fn is_full(free: Found) -> bool
+    ensures { λ r. ⌜ r ≡ isFull free ⌝ }
+{
+    match free {
+        Found::At(_) => false,
+        Found::Nothing => true,
+    }
+}
+
+fn is_valid(test: Test) -> bool
+    ensures { λ r. ⌜ r ≡ isValid test ⌝ }
+{
+    match test {
+        Test::Valid => true,
+        Test::Verified => false,
+    }
+}
+
+// Class and U/P of an Invoke; of any other PDU zeros.
+struct Wish {
+    class: u8,
+    up: bool,
+}
+
+fn no_wish() -> Wish
+    ensures { λ r. ⌜ r ≡ noWish ⌝ }
+{
+    Wish {
+        class: 0,
+        up: false,
+    }
+}
+
+fn wish_of(kind: Kind) -> Wish
+    ensures { λ r. ⌜ r ≡ wishOf kind ⌝ }
+{
+    match kind {
+        Kind::Invoke { up, class, .. } => Wish {
+            class: class,
+            up: up,
+        },
+        Kind::Result { .. } => no_wish(),
+        Kind::Ack { .. } => no_wish(),
+        Kind::Abort { .. } => no_wish(),
+        Kind::SegInvoke { .. } => no_wish(),
+        Kind::SegResult { .. } => no_wish(),
+        Kind::Nack { .. } => no_wish(),
+        Kind::Wrong(_) => no_wish(),
+        Kind::Refused(_) => no_wish(),
+    }
+}
+
+// Whom a PDU without a live record concerns, and the place where its record would be opened.
+fn arriver(place: usize, role: Role, peer: u8, tid: u16, kind: Kind) -> Holder
+    ensures { λ r. ⌜ r ≡ arriverOf place role peer tid kind ⌝ }
+{
+    let wish = wish_of(kind);
+    Holder {
+        place: place,
+        role: role,
+        peer: peer,
+        tid: tid,
+        class: wish.class,
+        up: wish.up,
+        len: 0,
+    }
+}
+
+// The step of an opening for this PDU.
+fn opened_by(t: &[u8], opening: Opening, h: Holder, time: u64, p: Pdu) -> Step
+    requires { ⌜ WellFormed (now t) ⌝ }
+    requires { ⌜ (h .place < recordsBound) × (h .tid ≤ tidBound) × (time ≤ timeBound) ⌝ }
+    ensures { λ r. ⌜ r ≡ openedStep (now (t .entry)) opening h time p ⌝ }
+{
+    let message = kept_part(p);
+    let none = step_plan::no_part();
+    let g = Given {
+        time: time,
+        kind: 0,
+        reason: 0,
+        len: message.len as u32,
+        exit_len: 0,
+    };
+    let c = Call {
+        message: message,
+        info: none,
+        user: Part {
+            start: p.start,
+            len: p.len,
+        },
+        tells: Tells::Nothing,
+    };
+    step_opening::opening_step(t, opening, h, g, Header::Kept, c)
+}
+
+// A PDU without a live record.
+fn unmatched(t: &[u8], role: Role, peer: u8, tid: u16, time: u64, s: &[u8], p: Pdu) -> Step
+    requires { ⌜ WellFormed (now t) ⌝ }
+    requires { ⌜ (tid ≤ tidBound) × (time ≤ timeBound) ⌝ }
+    ensures { λ r. ⌜ r ≡ unmatchedStep (now (t .entry)) role peer tid time (now (s .entry)) p ⌝ }
+{
+    let kind = p.kind;
+    let free = table_finding::free(t, call_refusal::records(t));
+    let full = is_full(free);
+    let cached = table_layout::cached_of(t, base_lists::size(peer));
+    let valid = is_valid(table_tids::tid_test(cached, tid));
+    let opening = row_choice::opening_of(step_arrivals::arrived(s, p, full, valid));
+    let h = arriver(step_opening::place_for(free), role, peer, tid, kind);
+    opened_by(t, opening, h, time, p)
+}
+
+// A PDU that names this record.
+fn naming(t: &[u8], role: Role, peer: u8, tid: u16, time: u64, s: &[u8]) -> Step
+    requires { ⌜ WellFormed (now t) ⌝ }
+    requires { ⌜ (tid ≤ tidBound) × (time ≤ timeBound) ⌝ }
+    ensures { λ r. ⌜ r ≡ namingStep (now (t .entry)) role peer tid time (now (s .entry)) ⌝ }
+{
+    let p = codec_reading::read(s);
+    match table_finding::named(t, call_refusal::records(t), role, peer as u64, tid as u64) {
+        Found::At(i) => taken(t, i, time, p),
+        Found::Nothing => unmatched(t, role, peer, tid, time, s, p),
+    }
+}
+
+// The step of an accepted PDU.
+fn step_for(t: &[u8], time: u64, peer: u8, s: &[u8]) -> Step
+    requires { ⌜ WellFormed (now t) ⌝ }
+    requires { ⌜ time ≤ timeBound ⌝ }
+    ensures { λ r. ⌜ r ≡ receiveStep (now (t .entry)) time peer (now (s .entry)) ⌝ }
+{
+    match step_arrivals::named_by(s) {
+        Name::Nobody => step_plan::idle(time),
+        Name::Of(role, tid) => naming(t, role, peer, tid, time, s),
+    }
+}
+
+// A PDU from a peer, over a store and an output of these lengths.
+pub fn planned(t: &[u8], store: usize, output: usize, time: u64, peer: u64, s: &[u8]) -> Plan
+    ensures { λ r. ⌜ r ≡ receivePlan (now (t .entry)) store output time peer (now (s .entry)) ⌝ }
+{
+    match judged(t, store, output, time, peer, s.len()) {
+        Judged::Refuse(r) => Plan::Refuse(r),
+        Judged::Accept => {
+            let step = step_for(t, time, (peer % 256) as u8, s);
+            Plan::Go(step)
+        }
+    }
+}

@@ -1,0 +1,14 @@
+use Rattle.call_refusal.specs.Judging.{lowest}
+use Rattle.call_request.specs.Requests.{freePlan}
+use borrow.Author.Needs.{needs}
+use Rattle.call_request.proofs.with_place.Statement.{statement}
+use Rattle.call_request.proofs.with_place.Tie as tie
+
+pub with-place-spec : {M : Type 1} → statement M
+unfolding freePlan lowest
+with-place-spec =
+    tie.close (tie.spec
+    (λ c κs. search needs)
+    (λ c. simp (c .if1 .taken, ← (c .before .none-free .ensures)))
+    (λ c κs. search needs) (λ c κs. search needs)
+    (λ c. simp (c .step-for .ensures, c .before .place-for .ensures, c .before .before .if1 .left, ← (c .before .before .before .none-free .ensures))))

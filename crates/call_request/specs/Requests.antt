@@ -1,0 +1,95 @@
+-- A request (01, "Events", "Initiator"): its refusals, and the step of an accepted one.
+use Prim.Native.Nat.{ℕ, _%_, _<_}
+use mathlib.Core.Path.{_≡_}
+use mathlib.Core.List.{List, [], _∷_, _++_}
+use mathlib.Core.Bool.{Bool, false, not}
+use lib.Dec.{ltb}
+use Rattle.base_lists.specs.Seq.{pick}
+use Rattle.base_numbers.specs.declared.Refusal.the-variants.{PeerTooLarge, TooLong, WrongClass, TidInUse, TableFull}
+use Rattle.table_record.specs.Record.{roleOf}
+use Rattle.table_record.specs.declared.Role.the-variants.{Initiator}
+use Rattle.table_layout.specs.Table.{count, genTidOf, recordAt}
+use Rattle.table_ranges.specs.Ranges.{peers, cellSize}
+use Rattle.table_record_ok.specs.OneRecord.{Live}
+use Rattle.table_finding.specs.Finding.{isFound, freeOf, tidInUse}
+use Rattle.table_finding.specs.declared.Found.{Found}
+use Rattle.row_choice.specs.Rows.{requestedOf}
+use Rattle.table_tids.specs.Tids.{nextTid}
+use Rattle.row_turns.specs.declared.Given.{Given}
+use Rattle.step_commit.specs.declared.Header.the-variants.{Set}
+use Rattle.call_refusal.specs.Judging.{Test, test, lowest, planBy, unfit, tooLate}
+use Rattle.step_plan.specs.Steps.{noPart}
+use Rattle.step_plan.specs.declared.Holder.{Holder}
+use Rattle.step_plan.specs.declared.Call.{Call}
+use Rattle.step_plan.specs.declared.Tells.the-variants.{Tid}
+use Rattle.step_plan.specs.declared.Step.{Step}
+use Rattle.step_plan.specs.declared.Plan.{Plan}
+use Rattle.step_opening.specs.Opens.{placeFor, openingStep}
+use Rattle.call_request.specs.declared.Request.{Request}
+
+-- 6: "GenTID is the TID of a live initiator record, any peer"
+pub record UsesGenTid (t : List ℕ) (i : ℕ) : Type 0 where
+  pub inside : i < count t
+  pub live : Live (recordAt t i)
+  pub initiator : roleOf (recordAt t i .state) ≡ Initiator
+  pub tid : recordAt t i .tid ≡ genTidOf t
+
+-- ---- the tests of its refusals; document 01's conditions are in crates/law_refusals
+
+-- numbers 1 to 6
+abbrev pub entryTests : List ℕ → ℕ → ℕ → Request → List Test
+entryTests t store output q =
+    unfit t store output
+    ∷ tooLate t (q .time)
+    ∷ test PeerTooLarge (ltb 255 (q .peer))
+    ∷ test TooLong (ltb cellSize (q .len))
+    ∷ test WrongClass (ltb 2 (q .class))
+    ∷ test TidInUse (tidInUse t (count t) (genTidOf t))
+    ∷ []
+
+-- number 7, of the lowest free record
+unfoldable pub noneFree : Found → ℕ → Bool
+noneFree free class = pick (ltb 0 class) (not (isFound free)) false
+
+abbrev pub fullTests : Found → Request → List Test
+fullTests free q = test TableFull (noneFree free (q .class)) ∷ []
+
+-- numbers 1 to 7
+abbrev pub requestTests : List ℕ → ℕ → ℕ → Request → List Test
+requestTests t store output q = entryTests t store output q ++ fullTests (freeOf t (count t)) q
+
+-- ---- the step
+
+-- the new record: an initiator's, under GenTID
+unfoldable pub requester : List ℕ → ℕ → Request → Holder
+requester t place q = record {
+  place = place;
+  role = Initiator;
+  peer = q .peer % peers;
+  tid = genTidOf t;
+  class = q .class % 256;
+  up = q .«user_ack»;
+  len = 0;
+}
+
+-- a request brings its time and the length of its data
+unfoldable pub requestGiven : Request → Given
+requestGiven q = record { time = q .time; kind = 0; reason = 0; len = q .len; «exit_len» = 0 }
+
+-- its message is all of its data; the answer tells its TID
+unfoldable pub requestCall : Request → Call
+requestCall q = record { message = record { start = 0; len = q .len }; info = noPart; user = noPart; tells = Tid }
+
+-- 01: "Request: send Invoke; class 0 ends; else RCR 0, timer R[0], RESULT WAIT"; "GenTID counts modulo 32,768, also for class 0"
+unfoldable pub requestStep : List ℕ → ℕ → Request → Step
+requestStep t place q =
+    openingStep t (requestedOf (q .class % 256)) (requester t place q) (requestGiven q) (Set (nextTid (genTidOf t))) (requestCall q)
+
+-- with the lowest free record found
+unfoldable pub freePlan : List ℕ → Found → Request → Plan
+freePlan t free q = planBy (lowest (fullTests free q)) (requestStep t (placeFor free) q)
+
+-- the whole plan: "takes the lowest free record when it opens one"
+unfoldable pub requestPlan : List ℕ → ℕ → ℕ → Request → Plan
+requestPlan t store output q =
+    planBy (lowest (requestTests t store output q)) (requestStep t (placeFor (freeOf t (count t))) q)

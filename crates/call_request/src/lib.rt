@@ -1,0 +1,134 @@
+// What a request will do.
+ghost use mathlib.Core.Path.{_≡_};
+ghost use Prim.Native.Nat.{_≤_, _<_};
+ghost use Rattle.table_ranges.specs.Ranges.{timeBound, cellSize, recordsBound};
+ghost use Rattle.table_well_formed.specs.WellFormed.{WellFormed};
+ghost use Rattle.call_refusal.specs.Judging.{lowest};
+ghost use Rattle.step_opening.specs.Opens.{placeFor};
+ghost use Rattle.call_request.specs.Requests.{noneFree, entryTests, requestStep, freePlan, requestPlan};
+use base_numbers::Refusal;
+use call_refusal::Judged;
+use row_turns::Given;
+use step_commit::Header;
+use step_plan::Call;
+use step_plan::Holder;
+use step_plan::Part;
+use step_plan::Plan;
+use step_plan::Step;
+use step_plan::Tells;
+use table_finding::Found;
+use table_record::Role;
+
+// A request: when, to whom, of which class, with or without user acknowledgement, and how many octets of data.
+pub struct Request {
+    pub time: u64,
+    pub peer: u64,
+    pub class: u64,
+    pub user_ack: bool,
+    pub len: usize,
+}
+
+// The lowest of the numbers 1 to 6 that applies.
+fn judged(t: &[u8], store: usize, output: usize, q: Request) -> Judged
+    ensures { λ r. ⌜ r ≡ lowest (entryTests (now (t .entry)) store output q) ⌝ }
+{
+    if !table_well_formed::fits(t, store, output) {
+        return Judged::Refuse(Refusal::WrongSize);
+    }
+    if call_refusal::late(t, q.time) {
+        return Judged::Refuse(Refusal::WrongTime);
+    }
+    if 255 < q.peer {
+        return Judged::Refuse(Refusal::PeerTooLarge);
+    }
+    if 1024 < q.len {
+        return Judged::Refuse(Refusal::TooLong);
+    }
+    if 2 < q.class {
+        return Judged::Refuse(Refusal::WrongClass);
+    }
+    let tid = table_layout::gen_tid_of(t);
+    if table_finding::tid_in_use(t, call_refusal::records(t), tid as u64) {
+        return Judged::Refuse(Refusal::TidInUse);
+    }
+    Judged::Accept
+}
+
+// Number 7: a record is wanted and none is free.
+fn none_free(free: Found, class: u64) -> bool
+    ensures { λ r. ⌜ r ≡ noneFree free class ⌝ }
+{
+    if 0 < class {
+        match free {
+            Found::At(_) => false,
+            Found::Nothing => true,
+        }
+    } else {
+        false
+    }
+}
+
+// The step of an accepted request whose record is opened at this place.
+fn step_for(t: &[u8], place: usize, q: Request) -> Step
+    requires { ⌜ WellFormed (now t) ⌝ }
+    requires { ⌜ place < recordsBound ⌝ }
+    requires { ⌜ (q .time ≤ timeBound) × (q .len ≤ cellSize) ⌝ }
+    ensures { λ r. ⌜ r ≡ requestStep (now (t .entry)) place q ⌝ }
+{
+    let tid = table_layout::gen_tid_of(t);
+    let class = (q.class % 256) as u8;
+    let none = step_plan::no_part();
+    let h = Holder {
+        place: place,
+        role: Role::Initiator,
+        peer: (q.peer % 256) as u8,
+        tid: tid,
+        class: class,
+        up: q.user_ack,
+        len: 0,
+    };
+    let g = Given {
+        time: q.time,
+        kind: 0,
+        reason: 0,
+        len: q.len as u32,
+        exit_len: 0,
+    };
+    let c = Call {
+        message: Part {
+            start: 0,
+            len: q.len,
+        },
+        info: none,
+        user: none,
+        tells: Tells::Tid,
+    };
+    let next = table_tids::next_tid(tid);
+    let opening = row_choice::requested(class);
+    step_opening::opening_step(t, opening, h, g, Header::Set(next), c)
+}
+
+// With the lowest free record found: number 7, or the step.
+fn with_place(t: &[u8], free: Found, q: Request) -> Plan
+    requires { ⌜ WellFormed (now t) ⌝ }
+    requires { ⌜ placeFor free < recordsBound ⌝ }
+    requires { ⌜ (q .time ≤ timeBound) × (q .len ≤ cellSize) ⌝ }
+    ensures { λ r. ⌜ r ≡ freePlan (now (t .entry)) free q ⌝ }
+{
+    if none_free(free, q.class) {
+        return Plan::Refuse(Refusal::TableFull);
+    }
+    let place = step_opening::place_for(free);
+    let step = step_for(t, place, q);
+    Plan::Go(step)
+}
+
+// A request over a store and an output of these lengths.
+pub fn planned(t: &[u8], store: usize, output: usize, q: Request) -> Plan
+    ensures { λ r. ⌜ r ≡ requestPlan (now (t .entry)) store output q ⌝ }
+{
+    match judged(t, store, output, q) {
+        Judged::Refuse(r) => Plan::Refuse(r),
+        Judged::Accept => with_place(t, table_finding::free(t, call_refusal::records(t)), q),
+    }
+}

@@ -1,0 +1,109 @@
+// The 88 words that the C interface has for a PDU, stored.
+ghost use mathlib.Core.Path.{_≡_};
+ghost use Prim.Native.Nat.{_≤_};
+ghost use lib.ListN.{length};
+ghost use Rattle.base_lists.specs.Seq.{put};
+ghost use Rattle.codec_words.specs.Words.{frontWords, invokeWords, otherWords, itemWords, itemsWords, wordsOf};
+use base_lists::flag;
+use codec_items::Item;
+use codec_pdu::Kind;
+use codec_pdu::Pdu;
+
+// Words 0 to 4: type, GTR, TTR, RID, TID.
+fn front_words(kind: Kind, tid: u64) -> [u64; 5]
+    ensures { λ r. ⌜ r ≡ frontWords kind tid ⌝ }
+{
+    match kind {
+        Kind::Invoke { gtr, ttr, rid, .. } => [1, flag(gtr), flag(ttr), flag(rid), tid],
+        Kind::Result { gtr, ttr, rid } => [2, flag(gtr), flag(ttr), flag(rid), tid],
+        Kind::Ack { rid, .. } => [3, 0, 0, flag(rid), tid],
+        Kind::Abort { .. } => [4, 0, 0, 0, tid],
+        Kind::SegInvoke { gtr, ttr, rid, .. } => [5, flag(gtr), flag(ttr), flag(rid), tid],
+        Kind::SegResult { gtr, ttr, rid, .. } => [6, flag(gtr), flag(ttr), flag(rid), tid],
+        Kind::Nack { rid, .. } => [7, 0, 0, flag(rid), tid],
+        Kind::Wrong(_) => [0, 0, 0, 0, tid],
+        Kind::Refused(_) => [0, 0, 0, 0, tid],
+    }
+}
+
+// Words 5 to 8: version, TIDnew, U/P, class.
+fn invoke_words(kind: Kind) -> [u64; 4]
+    ensures { λ r. ⌜ r ≡ invokeWords kind ⌝ }
+{
+    match kind {
+        Kind::Invoke {
+            version,
+            tidnew,
+            up,
+            class,
+            ..
+        } => [version as u64, flag(tidnew), flag(up), class as u64],
+        Kind::Result { .. } => [0; 4],
+        Kind::Ack { .. } => [0; 4],
+        Kind::Abort { .. } => [0; 4],
+        Kind::SegInvoke { .. } => [0; 4],
+        Kind::SegResult { .. } => [0; 4],
+        Kind::Nack { .. } => [0; 4],
+        Kind::Wrong(_) => [0; 4],
+        Kind::Refused(_) => [0; 4],
+    }
+}
+
+// Words 9 to 14: Tve/Tok, abort type, abort reason, packet number, Nack count, start of the Nack list.
+fn other_words(kind: Kind) -> [u64; 6]
+    ensures { λ r. ⌜ r ≡ otherWords kind ⌝ }
+{
+    match kind {
+        Kind::Invoke { .. } => [0; 6],
+        Kind::Result { .. } => [0; 6],
+        Kind::Ack { tve, .. } => [flag(tve), 0, 0, 0, 0, 0],
+        Kind::Abort { abort_type, reason } => [0, abort_type as u64, reason as u64, 0, 0, 0],
+        Kind::SegInvoke { packet, .. } => [0, 0, 0, packet as u64, 0, 0],
+        Kind::SegResult { packet, .. } => [0, 0, 0, packet as u64, 0, 0],
+        Kind::Nack { count, list, .. } => [0, 0, 0, 0, count as u64, list as u64],
+        Kind::Wrong(_) => [0; 6],
+        Kind::Refused(_) => [0; 6],
+    }
+}
+
+fn item_words(it: Item) -> [u64; 4]
+    ensures { λ r. ⌜ r ≡ itemWords it ⌝ }
+{
+    let long = flag(it.long);
+    [it.identity as u64, long, it.start as u64, it.len as u64]
+}
+
+// Stores the words of the items, four for each, from word 24 on.
+fn store_items(fields: &mut [u64], list: [Item; 16])
+    requires { ⌜ 88 ≤ length (now fields) ⌝ }
+    ensures { λ _. ⌜ now (fields .exit) ≡ put (now (fields .entry)) 24 (itemsWords list) ⌝ }
+{
+    let mut k = 0;
+    while k < 16 {
+        let it = list[k];
+        let four = item_words(it);
+        base_lists::store_words(&mut *fields, 24 + 4 * k, &four);
+        k += 1;
+    }
+}
+
+// Stores the words of a PDU.
+pub fn store_fields(fields: &mut [u64], p: Pdu)
+    requires { ⌜ 88 ≤ length (now fields) ⌝ }
+    ensures { λ _. ⌜ now (fields .exit) ≡ put (now (fields .entry)) 0 (wordsOf p) ⌝ }
+{
+    let kind = p.kind;
+    let list = p.list;
+    let front = front_words(kind, p.tid as u64);
+    let invoke = invoke_words(kind);
+    let other = other_words(kind);
+    let count = p.count as u64;
+    let start = p.start as u64;
+    let len = p.len as u64;
+    let rest = [count, start, len, 0, 0, 0, 0, 0, 0];
+    base_lists::store_words(&mut *fields, 0, &front);
+    base_lists::store_words(&mut *fields, 5, &invoke);
+    base_lists::store_words(&mut *fields, 9, &other);
+    base_lists::store_words(&mut *fields, 15, &rest);
+    store_items(fields, list);
+}

@@ -1,9 +1,0 @@
--- `columns::takes` meets its contract, by its definition. Assumes nothing.
-use mathlib.Core.Path.{refl}
-use Rattle.columns.specs.Columns.{taken}
-use Rattle.columns.proofs.takes.Statement.{statement}
-use Rattle.columns.proofs.takes.Tie as tie
-
-pub takes-spec : {M : Type 1} → statement M
-unfolding taken
-takes-spec = tie.close (tie.spec (λ c. refl))

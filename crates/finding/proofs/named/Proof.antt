@@ -1,9 +1,0 @@
--- `finding::named` meets its contract. Assumes nothing.
-use Rattle.finding.specs.Finding.{namedOf}
-use borrow.Author.Needs.{needs}
-use Rattle.finding.proofs.named.Statement.{statement}
-use Rattle.finding.proofs.named.Tie as tie
-
-pub named-spec : {M : Type 1} → statement M
-unfolding namedOf
-named-spec = tie.close (tie.spec (λ c κs. search needs) (λ c. search needs))

@@ -1,0 +1,142 @@
+-- GenTID: an accepted request counts it by one, and no other call changes it. Assumes nothing.
+use Prim.Native.Nat.{ℕ, _+_, _*_, _≤_}
+use native.Mathlib.Omega.{arith}
+use mathlib.Core.Path.{_≡_, refl, _∙_}
+use mathlib.Core.List.{List}
+use mathlib.Core.Bool.{Bool, true, false}
+use mathlib.Core.Logic.{_⊎_, inl, inr}
+use lib.ListN.{replicate}
+use Rattle.base_lists.specs.Seq.{put}
+use Rattle.base_lists.proofs.Laws.{true-false}
+use Rattle.base_octets.specs.Octets.{enc}
+use Rattle.base_octets.proofs.Laws.{length-enc}
+use Rattle.table_record.specs.Record.{octetsOf}
+use Rattle.codec_reading.specs.Read.{pduOf}
+use Rattle.table_layout.specs.Table.{base, exitBase, count, genTidOf, putRecord, clearRecord, putCached, putClock}
+use Rattle.table_layout.proofs.Apart.{gen-tid-apart}
+use Rattle.table_finding.specs.Finding.{dueOf}
+use Rattle.table_finding.specs.declared.Found.{Found}
+use Rattle.table_finding.specs.declared.Found.the-variants as Found
+use Rattle.step_commit.specs.declared.Change.{Change}
+use Rattle.step_commit.specs.declared.Change.the-variants.{Nothing, Put, Clear}
+use Rattle.step_commit.specs.declared.Header.{Header}
+use Rattle.step_commit.specs.declared.Header.the-variants.{Kept, Set}
+use Rattle.step_commit.specs.declared.Changes.{Changes}
+use Rattle.step_commit.specs.Commit.{recordChanged, exitStored, genTidChanged, cacheChanged, tableAfter}
+use Rattle.step_changes.specs.Changes.{turnChanges}
+use Rattle.step_plan.specs.Steps.{stepOf, idleChanges, idleStep}
+use Rattle.step_plan.specs.declared.Step.{Step}
+use Rattle.step_plan.specs.declared.Plan.{Plan}
+use Rattle.step_plan.specs.declared.Plan.the-variants.{Refuse, Go}
+use Rattle.step_live.specs.Turning.{liveStep}
+use Rattle.step_opening.specs.Opens.{openingChanges, openingStep}
+use Rattle.call_primitive.specs.Primitives.{primitiveStep}
+use Rattle.call_primitive.specs.declared.Primitive.{Primitive}
+use Rattle.call_primitive.proofs.Accepted.{primitive-accepted}
+use Rattle.call_receive.specs.Receives.{takenStep, openedStep, unmatchedStep, receiveStep}
+use Rattle.call_receive.proofs.Ways.{Taken, Unmatched, ways}
+use Rattle.call_receive.proofs.Accepted.{receive-accepted}
+use Rattle.call_timer.specs.Timers.{stepBy, timerStep}
+use Rattle.call_timer.proofs.Accepted.{timer-accepted}
+use Rattle.step_outcome.specs.Carry.{Lent, tableThen, carriedOut, outcome}
+use Rattle.call_engine.specs.Calls.{storeSize, outputSize}
+use Rattle.law_calls.specs.Promise.{Call, promised, planFor}
+use Rattle.law_calls.proofs.Outcomes.{as-planned}
+
+-- a store past the two octets of GenTID
+past : (t : List ℕ) (b : ℕ) (w : List ℕ) → 10 ≤ b → genTidOf (put t b w) ≡ genTidOf t
+past t b w h = gen-tid-apart t b w (inl (omega arith))
+
+changed-keeps : (t : List ℕ) (place : ℕ) (c : Change) → genTidOf (recordChanged t place c) ≡ genTidOf t
+unfolding recordChanged putRecord clearRecord
+changed-keeps t place Nothing = refl
+changed-keeps t place (Put r) = past t (base place) (octetsOf r) (omega arith)
+changed-keeps t place Clear = past t (base place) (replicate 160 0) (omega arith)
+
+exit-keeps : (t : List ℕ) (place : ℕ) (stored : Bool) (exit : List ℕ) → genTidOf (exitStored t place stored exit) ≡ genTidOf t
+unfolding exitStored
+exit-keeps t place true exit = past t (exitBase place) exit (omega arith)
+exit-keeps t place false exit = refl
+
+cached-keeps : (t : List ℕ) (peer : ℕ) (c : Header) → genTidOf (cacheChanged t peer c) ≡ genTidOf t
+unfolding cacheChanged putCached
+cached-keeps t peer Kept = refl
+cached-keeps t peer (Set v) = past t (112 + peer * 2) (enc 2 v) (omega arith)
+
+clock-keeps : (t : List ℕ) (time : ℕ) → genTidOf (putClock t time) ≡ genTidOf t
+unfolding putClock
+clock-keeps t time = gen-tid-apart t 0 (enc 8 time) (inr (omega (arith, length-enc 8 time)))
+
+-- whatever else a step changes, GenTID is as its own column says
+after-changes : (t : List ℕ) (c : Changes) (exit : List ℕ) → genTidOf (tableAfter t c exit) ≡ genTidOf (genTidChanged (exitStored (recordChanged t (c .place) (c .change)) (c .place) (c .exit) exit) (c .«gen_tid»))
+unfolding tableAfter
+after-changes t c exit = clock-keeps _ (c .time) ∙ cached-keeps _ (c .peer) (c .cached)
+
+pub step-keeps-gen-tid : (l : Lent) (step : Step) → step .changes .«gen_tid» ≡ Kept → genTidOf (carriedOut l step .table) ≡ genTidOf (l .table)
+unfolding carriedOut tableThen genTidChanged
+step-keeps-gen-tid l step e =
+    after-changes (l .table) (step .changes) (l .exit)
+    ∙ (rw e (exit-keeps _ (step .changes .place) (step .changes .exit) (l .exit) ∙ changed-keeps (l .table) (step .changes .place) (step .changes .change)))
+
+-- every call but a request
+abbrev pub isRequest : Call → Bool
+isRequest (Call.Request time peer class userAck) = true
+isRequest (Call.Answer time role peer tid) = false
+isRequest (Call.Result time role peer tid) = false
+isRequest (Call.Abort time role peer tid reason) = false
+isRequest (Call.Receive time peer) = false
+isRequest (Call.Timer time) = false
+
+-- a step that leaves GenTID
+abbrev Leaves : Step → Type 0
+Leaves step = step .changes .«gen_tid» ≡ Kept
+
+idle-leaves : (time : ℕ) → Leaves (idleStep time)
+unfolding idleStep idleChanges
+idle-leaves time = refl
+
+primitive-leaves : (t : List ℕ) (place : ℕ) (p : Primitive) → Leaves (primitiveStep t place p)
+unfolding primitiveStep liveStep stepOf turnChanges
+primitive-leaves t place p = refl
+
+timer-leaves : (f : Found) (t : List ℕ) (time : ℕ) → Leaves (stepBy f t time)
+unfolding liveStep stepOf turnChanges
+timer-leaves (Found.At i) t time = refl
+timer-leaves Found.Nothing t time = idle-leaves time
+
+fired-leaves : (t : List ℕ) (time : ℕ) → Leaves (timerStep t time)
+unfolding timerStep
+fired-leaves t time = timer-leaves (dueOf t (count t) time) t time
+
+module _ (t : List ℕ) (time peer : ℕ) (s : List ℕ) where
+  taken-leaves : (place : ℕ) → Leaves (takenStep t place time (pduOf s))
+  unfolding takenStep liveStep stepOf turnChanges
+  taken-leaves place = refl
+
+  unmatched-leaves : (u : Unmatched t time peer s) → Leaves (unmatchedStep t (u .role) peer (u .tid) time s (pduOf s))
+  unfolding unmatchedStep openedStep openingStep openingChanges stepOf
+  unmatched-leaves u = refl
+
+  receive-leaves : (receiveStep t time peer s ≡ idleStep time) ⊎ (Taken t time peer s ⊎ Unmatched t time peer s) → Leaves (receiveStep t time peer s)
+  receive-leaves (inl e) = rw e (idle-leaves time)
+  receive-leaves (inr (inl k)) = rw (k .step-is) (taken-leaves (k .place))
+  receive-leaves (inr (inr u)) = rw (u .step-is) (unmatched-leaves u)
+
+step-leaves : (c : Call) (l : Lent) (step : Step) → isRequest c ≡ false → planFor c l ≡ Go step → Leaves step
+step-leaves (Call.Request time peer class userAck) l step r e = true-false r
+step-leaves (Call.Answer time role peer tid) l step r e = rw (primitive-accepted (l .table) (storeSize l) (outputSize l) _ step e .is-step) (primitive-leaves (l .table) _ _)
+step-leaves (Call.Result time role peer tid) l step r e = rw (primitive-accepted (l .table) (storeSize l) (outputSize l) _ step e .is-step) (primitive-leaves (l .table) _ _)
+step-leaves (Call.Abort time role peer tid reason) l step r e = rw (primitive-accepted (l .table) (storeSize l) (outputSize l) _ step e .is-step) (primitive-leaves (l .table) _ _)
+step-leaves (Call.Receive time peer) l step r e =
+    let k = receive-accepted (l .table) (storeSize l) (outputSize l) time peer (l .given) step e in
+    rw (k .step-is) (receive-leaves (l .table) time peer (l .given) (ways (l .table) (k .enters .fitting .formed) time peer (l .given)))
+step-leaves (Call.Timer time) l step r e = rw (timer-accepted (l .table) (storeSize l) (outputSize l) time step e .step-is) (fired-leaves (l .table) time)
+
+of-plan : (l : Lent) (p : Plan) → ((step : Step) → p ≡ Go step → Leaves step) → genTidOf (outcome l p .table) ≡ genTidOf (l .table)
+unfolding outcome
+of-plan l (Refuse r) leaves = refl
+of-plan l (Go step) leaves = step-keeps-gen-tid l step (leaves step refl)
+
+-- only a request changes GenTID
+pub call-keeps-gen-tid : (c : Call) (l : Lent) → isRequest c ≡ false → genTidOf (promised c l .table) ≡ genTidOf (l .table)
+call-keeps-gen-tid c l r = rw (as-planned c l) (of-plan l (planFor c l) (λ step e. step-leaves c l step r e))

@@ -1,0 +1,46 @@
+-- Which names a call opens as a responder's: one that a live record had before is not opened anew. Assumes nothing.
+use Prim.Native.Nat.{ℕ, _<_}
+use mathlib.Core.Path.{_≡_, refl}
+use mathlib.Core.Bool.{true, false}
+use mathlib.Core.List.{List, _∷_}
+use Rattle.table_record.specs.declared.Role.the-variants.{Responder}
+use Rattle.table_layout.specs.Table.{count, recordAt}
+use Rattle.table_finding.specs.Finding.{isFound, namedOf}
+use Rattle.table_finding.specs.declared.Found.{Found}
+use Rattle.table_finding.specs.declared.Found.the-variants as Found
+use Rattle.table_finding.proofs.Tests.{Called}
+use Rattle.table_finding.proofs.Meaning.{NoneOf, named-found, named-nothing}
+use Rattle.law_history.specs.Trace.{Entry}
+use Rattle.law_history.specs.Tally.{lives, opens}
+use Rattle.law_history.specs.Demand.{userData, openedData}
+use Rattle.law_data_shown.specs.Cells.{responder}
+
+module _ (t : List ℕ) (peer tid : ℕ) where
+  -- a live record so called is found
+  pub called-lives : (i : ℕ) → i < count t → Called Responder peer tid (recordAt t i) → lives t (responder peer tid) ≡ true
+  called-lives i inside called = go (namedOf t (count t) Responder peer tid) refl
+    where
+      go : (f : Found) → namedOf t (count t) Responder peer tid ≡ f → isFound f ≡ true
+      go (Found.At j) e = refl
+      go Found.Nothing e = absurd (named-nothing t (count t) Responder peer tid e i inside called)
+
+  -- where none is so called, none is found
+  pub none-lives : NoneOf (Called Responder peer tid) t (count t) → lives t (responder peer tid) ≡ false
+  none-lives none = go (namedOf t (count t) Responder peer tid) refl
+    where
+      go : (f : Found) → namedOf t (count t) Responder peer tid ≡ f → isFound f ≡ false
+      go (Found.At j) e =
+          let l = named-found t (count t) Responder peer tid j e in
+          absurd (none j (l .below) (l .is-so))
+      go Found.Nothing e = refl
+
+module _ (e : Entry) (h : List Entry) (peer tid : ℕ) where
+  -- the data of a name that lived before stays that of its opening
+  pub data-stays : lives (e .lent .table) (responder peer tid) ≡ true → openedData (e ∷ h) (responder peer tid) ≡ openedData h (responder peer tid)
+  unfolding openedData opens
+  data-stays lived = rw lived refl
+
+  -- the data of a name that is opened is that of this PDU
+  pub data-opens : lives (e .lent .table) (responder peer tid) ≡ false → lives (e .done .table) (responder peer tid) ≡ true → openedData (e ∷ h) (responder peer tid) ≡ userData (e .lent .given)
+  unfolding openedData opens
+  data-opens none lives-then = rw (none, lives-then) refl

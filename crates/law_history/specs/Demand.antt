@@ -1,0 +1,97 @@
+-- Demand 3, sentence by sentence, over the history.
+use Prim.Native.Nat.{ℕ, _+_, _≤_, _<_}
+use mathlib.Core.Path.{_≡_}
+use mathlib.Core.Bool.{Bool, true, false}
+use mathlib.Core.List.{List, [], _∷_}
+use mathlib.Core.Logic.{_⊎_}
+use Rattle.base_lists.specs.Seq.{pick, part}
+use Rattle.table_record.specs.Record.{roleOf}
+use Rattle.table_record.specs.declared.Role.the-variants.{Initiator, Responder}
+use Rattle.table_record.specs.declared.State.the-variants.{IResultWait2}
+use Rattle.table_record.specs.declared.Record.{Record}
+use Rattle.codec_pdu.specs.declared.Kind.the-variants as Kind
+use Rattle.codec_reading.specs.Read.{pduOf}
+use Rattle.table_layout.specs.Table.{count, recordAt, settingsOf}
+use Rattle.table_names_ok.specs.Names.{Unique}
+use Rattle.law_counting.specs.Counting.{Counts, Limits}
+use Rattle.step_shown.specs.Parts.{dataOf}
+use Rattle.step_shown.specs.declared.Place.{Place}
+use Rattle.step_shown.specs.declared.Shown.{Shown}
+use Rattle.step_shown.specs.declared.Shown.the-variants as Shown
+use Rattle.step_outcome.specs.declared.Answer.{Answer}
+use Rattle.step_outcome.specs.declared.Answer.the-variants.{Refused, Taken}
+use Rattle.law_calls.specs.Promise.{Call}
+use Rattle.law_history.specs.Trace.{Entry, Throughout}
+use Rattle.law_history.specs.Tally.{Name, adds, opens, tally}
+use Rattle.law_history.specs.Moves.{before, after, SameRecords, OthersSame}
+
+-- a call shows this to its user
+abbrev pub ShownIn : Answer → Shown → Type 0
+ShownIn (Refused r) s = ⊥
+ShownIn (Taken sent told first second) s = (first ≡ s) ⊎ (second ≡ s)
+
+abbrev pub Shows : Entry → Shown → Type 0
+Shows e s = ShownIn (e .done .answer) s
+
+-- confirmations, results and aborts that a call brings under a name, the user's own abort among them
+abbrev pub brings : Counts → ℕ
+brings c = c .confirms + c .results + c .aborts
+
+-- "nothing after the user's own abort or one shown to it"
+abbrev pub Calm : Entry → List Entry → Type 0
+Calm e h = (n : Name) → opens e n ≡ false → 1 ≤ brings (adds e n) → tally h n .aborts ≡ 0
+
+-- the user data of a PDU
+abbrev pub userData : List ℕ → List ℕ
+userData s = part s (pduOf s .start) (pduOf s .len)
+
+-- a Result PDU, TTR set, came in this very call to a record that waited for it, and its data is what is shown
+pub record ResultTaken (e : Entry) (peer tid : ℕ) (place : Place) : Type 0 where
+  pub time : ℕ
+  pub received : e .call ≡ Call.Receive time peer
+  pub gtr : Bool
+  pub rid : Bool
+  pub pdu : pduOf (e .lent .given) .kind ≡ Kind.Result gtr true rid
+  pub waiting : ℕ
+  pub inside : waiting < count (before e)
+  pub waited : recordAt (before e) waiting .state ≡ IResultWait2
+  pub peer-is : recordAt (before e) waiting .peer ≡ peer
+  pub tid-is : recordAt (before e) waiting .tid ≡ tid
+  pub exact : dataOf (e .lent .given) (e .done .store) place ≡ userData (e .lent .given)
+
+-- "a result only with the exact data of a Result PDU taken while that request waited for it"
+abbrev pub ResultExact : Entry → List Entry → Type 0
+ResultExact e h = (peer tid : ℕ) (place : Place) → Shows e (Shown.Result peer tid place) → ResultTaken e peer tid place
+
+-- the data of the PDU that opened a name last
+unfoldable pub openedData : List Entry → Name → List ℕ
+openedData [] n = []
+openedData (e ∷ h) n = pick (opens e n) (userData (e .lent .given)) (openedData h n)
+
+-- an Invoke of class 1 or 2 is shown with the exact data of the Invoke that opened its record, also after verification
+abbrev pub InvokeExact : Entry → List Entry → Type 0
+InvokeExact e h = (peer tid class : ℕ) (up : Bool) (place : Place) → Shows e (Shown.Invoke peer tid class up place) → 1 ≤ class
+    → dataOf (e .lent .given) (e .done .store) place ≡ openedData (e ∷ h) (record { role = Responder; peer = peer; tid = tid })
+
+-- "A call changes no record but the one it names, opens or fires"
+abbrev pub OneChanged : Entry → List Entry → Type 0
+OneChanged e h = SameRecords e ⊎ ((place : ℕ) × OthersSame e place)
+
+-- within the limits after this call: so for every request and every record of the history, and not only for the last under its name
+abbrev pub Limited : ℕ → Entry → List Entry → Type 0
+Limited max e h = (n : Name) → Limits max (tally (e ∷ h) n)
+
+-- demand 3 of a table and its history, with RCR_MAX
+pub record Demand3 (max : ℕ) (t : List ℕ) (h : List Entry) : Type 0 where
+  -- "No two live records ever share role, peer and TID"
+  pub unique : Unique t (count t)
+  -- "at most one confirmation, one result and one abort"; "Its Invoke PDUs and TIDok answers number at most 1 + RCR_MAX together"; "shows that Invoke to its user at most once"
+  pub limits : Throughout (Limited max) h
+  -- "nothing after the user's own abort or one shown to it"
+  pub calm : Throughout Calm h
+  -- "a result only with the exact data of a Result PDU taken while that request waited for it"
+  pub results : Throughout ResultExact h
+  -- "A record opened by a received Invoke shows that Invoke"
+  pub invokes : Throughout InvokeExact h
+  -- "A call changes no record but the one it names, opens or fires"
+  pub one-changed : Throughout OneChanged h

@@ -1,0 +1,72 @@
+-- A refused call is quiet: it counts nothing, opens nothing and changes no record. Assumes nothing.
+use Prim.Native.Nat.{ℕ, _%_}
+use mathlib.Core.Path.{_≡_, refl, ap, _∙_}
+use mathlib.Core.Bool.{Bool, true, false}
+use mathlib.Core.List.{[]}
+use Rattle.base_lists.specs.Seq.{pick}
+use Rattle.base_numbers.specs.declared.Refusal.{Refusal}
+use Rattle.table_record.specs.declared.Role.{Role}
+use Rattle.table_record.specs.declared.Role.the-variants.{Initiator, Responder}
+use Rattle.table_layout.specs.Table.{recordAt}
+use Rattle.step_arrivals.specs.Arrivals.{tidOf}
+use Rattle.law_counting.specs.Counting.{none}
+use Rattle.step_plan.specs.declared.Told.the-variants as Told
+use Rattle.step_plan.specs.declared.Plan.the-variants.{Refuse}
+use Rattle.step_outcome.specs.Carry.{Done, done, outcome}
+use Rattle.step_outcome.specs.declared.Answer.the-variants.{Refused}
+use Rattle.law_calls.specs.Promise.{Call, planFor}
+use Rattle.law_calls.proofs.Outcomes.{as-planned}
+use Rattle.law_history.specs.Trace.{Entry, Promise}
+use Rattle.law_history.specs.Tally.{Name, isNamed, ofType, senderRole, ofSent, peerOf, adds, lives, acceptsBy, opensFor, opens}
+use Rattle.law_history.specs.Moves.{Quiet}
+
+-- no octets are no PDU
+type-none : (role : Role) → ofType role 0 0 ≡ none
+unfolding ofType
+type-none Initiator = refl
+type-none Responder = refl
+
+pub none-sent : (n : Name) (peer : ℕ) → ofSent n peer [] ≡ none
+unfolding ofSent
+none-sent n peer = go (isNamed n (senderRole []) peer (tidOf [] % 32768))
+  where
+    go : (b : Bool) → pick b (ofType (n .role) 0 0) none ≡ none
+    go true = type-none (n .role)
+    go false = refl
+
+-- no TID is told
+none-accepted : (c : Call) (n : Name) → acceptsBy c Told.Nothing n ≡ false
+none-accepted (Call.Request time peer class userAck) n = refl
+none-accepted (Call.Answer time role peer tid) n = refl
+none-accepted (Call.Result time role peer tid) n = refl
+none-accepted (Call.Abort time role peer tid reason) n = refl
+none-accepted (Call.Receive time peer) n = refl
+none-accepted (Call.Timer time) n = refl
+
+module _ (e : Entry) (r : Refusal) (is : e .done ≡ done (Refused r) (e .lent .table) (e .lent .store) (e .lent .output)) where
+  nothing-added : (n : Name) → adds e n ≡ none
+  unfolding adds
+  nothing-added n = rw (is, none-sent n (peerOf (e .call) (Refused r))) refl
+
+  nothing-opened : (n : Name) (role : Role) → opensFor role e n ≡ false
+  nothing-opened n Initiator = rw is (none-accepted (e .call) n)
+  nothing-opened n Responder = rw is (go (lives (e .lent .table) n))
+    where
+      go : (b : Bool) → pick b false b ≡ false
+      go true = refl
+      go false = refl
+
+  quiet : Quiet e
+  unfolding opens
+  quiet = record {
+    silent = λ n. record { adds-none = nothing-added n; not-opened = nothing-opened n (n .role) };
+    same = λ j. ap (λ (d : Done). recordAt (d .table) j) is;
+  }
+
+-- "A refusal gives only its number and changes no lent byte"
+pub refused-is : (e : Entry) → Promise e → (r : Refusal) → planFor (e .call) (e .lent) ≡ Refuse r → e .done ≡ done (Refused r) (e .lent .table) (e .lent .store) (e .lent .output)
+unfolding outcome
+refused-is e p r q = p .keeps ∙ as-planned (e .call) (e .lent) ∙ ap (outcome (e .lent)) q
+
+pub refused-quiet : (e : Entry) → Promise e → (r : Refusal) → planFor (e .call) (e .lent) ≡ Refuse r → Quiet e
+refused-quiet e p r q = quiet e r (refused-is e p r q)

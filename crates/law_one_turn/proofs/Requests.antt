@@ -1,0 +1,142 @@
+-- An accepted request opens its name: with a record, or without one for class 0. Assumes nothing.
+use Prim.Native.Nat.{ℕ, _%_, _<_}
+use native.Mathlib.Omega.{arith}
+use mathlib.Core.Path.{_≡_, refl, sym, ap, _∙_}
+use mathlib.Core.Bool.{Bool, true, false}
+use mathlib.Core.List.{List}
+use mathlib.Core.Logic.{_⊎_, inl, inr}
+use lib.ListN.{length}
+use lib.Dec.{eqb}
+use borrow.Author.Tests.{eqb-false}
+use Rattle.base_lists.specs.Seq.{pick}
+use Rattle.table_record.specs.declared.State.the-variants.{Free}
+use Rattle.table_record.specs.declared.Role.the-variants.{Initiator}
+use Rattle.table_layout.specs.Table.{count, genTidOf, recordAt}
+use Rattle.table_tids.specs.Tids.{nextTid}
+use Rattle.table_ranges.specs.Ranges.{peers}
+use Rattle.table_record_ok.specs.OneRecord.{Live}
+use Rattle.table_finding.proofs.Tests.{Called}
+use Rattle.table_finding.proofs.Meaning.{NoneOf}
+use Rattle.law_places.proofs.Places.{live-number}
+use Rattle.row_events.specs.declared.Opening.{Opening}
+use Rattle.row_events.specs.declared.Opening.the-variants as Opening
+use Rattle.row_choice.specs.Rows.{requestedOf}
+use Rattle.row_columns.specs.Columns.{actWith, stored}
+use Rattle.row_columns.specs.declared.Indication.the-variants as Indication
+use Rattle.row_entries.specs.Acts.{openingAct}
+use Rattle.row_turns.specs.Turns.{movedTo, recordAfter, turnOf, openingTurn}
+use Rattle.step_commit.specs.declared.Header.the-variants.{Set}
+use Rattle.step_plan.specs.Steps as Steps
+use Rattle.step_plan.specs.declared.Step.{Step}
+use Rattle.step_plan.specs.declared.Plan.the-variants.{Go}
+use Rattle.step_opening.specs.Opens.{openedTurn, openingStep}
+use Rattle.call_request.specs.Requests.{requester, requestGiven, requestCall, requestStep, requestPlan}
+use Rattle.call_request.specs.declared.Request.{Request}
+use Rattle.call_request.proofs.Accepted.{placeOf, Admitted, Accepted, request-accepted, peer-octet}
+use Rattle.step_outcome.specs.Carry.{Lent, carriedOut}
+use Rattle.law_steps_sound.specs.Sound.{Fits, GivenOk, Sound}
+use Rattle.law_plans_sound.proofs.Openings.{openedRole}
+use Rattle.call_engine.specs.Calls.{asRequest}
+use Rattle.law_calls.specs.Promise.{Call}
+use Rattle.law_history.specs.Tally.{Name, isNamed, acceptsBy, toldOf, opens}
+use Rattle.law_history.specs.Moves.{Opened, Once}
+use Rattle.law_one_turn.proofs.Names.{name, named-self, not-named}
+use Rattle.law_one_turn.proofs.Counted.{entryOf}
+use Rattle.law_one_turn.proofs.Opened.{OpensFor, opened, once}
+
+-- an opening of an initiator's record that shows nothing
+record Asks (o : Opening) : Type 0 where
+  role : openedRole o ≡ Initiator
+  first : openingAct o .first ≡ Indication.Nothing
+  second : openingAct o .second ≡ Indication.Nothing
+
+module _ (l : Lent) (time peer class : ℕ) (userAck : Bool) (f : Fits l) (a : Admitted (l .table) (length (l .store)) (length (l .output)) (asRequest time peer class userAck (length (l .given)))) (place : ℕ) where
+  abbrev call : Call
+  call = Call.Request time peer class userAck
+
+  abbrev t : List ℕ
+  t = l .table
+
+  abbrev q : Request
+  q = asRequest time peer class userAck (length (l .given))
+
+  abbrev stepWith : Opening → Step
+  stepWith o = openingStep t o (requester t place q) (requestGiven q) (Set (nextTid (genTidOf t))) (requestCall q)
+
+  abbrev own : Name
+  own = name Initiator (peer % peers) (genTidOf t)
+
+  own-peer : peer % peers ≡ peer
+  own-peer = peer-octet t _ _ q a
+
+  -- the answer tells the TID
+  asked : (o : Opening) (n : Name) → acceptsBy call (toldOf (carriedOut l (stepWith o) .answer)) n ≡ isNamed n Initiator (peer % peers) (genTidOf t)
+  unfolding carriedOut openingStep Steps.stepOf Steps.toldOf requestCall requester
+  asked o n = ap (λ (p : ℕ). isNamed n Initiator p (genTidOf t)) (sym own-peer)
+
+  no-other : NoneOf (Called Initiator (peer % peers) (genTidOf t)) t (count t)
+  no-other m h c = a .tid-unused m (record { inside = h; live = live-number (recordAt t m .state) (c .live); initiator = c .role-is; tid = c .tid-is })
+
+  known : (o : Opening) → Asks o → Sound l (stepWith o) → OpensFor call l o (requester t place q) (requestGiven q) (Set (nextTid (genTidOf t))) (requestCall q)
+  unfolding requester openedTurn openingTurn turnOf
+  known o k ok = record {
+    fits = f;
+    sound = ok;
+    tid = f .formed .header .gen-tid;
+    role = k .role;
+    peer = sym own-peer;
+    first = rw (k .first) tt;
+    second = rw (k .second) tt;
+    unused = no-other;
+    others-asked = λ n d. asked o n ∙ not-named n Initiator (peer % peers) (genTidOf t) d;
+  }
+
+  opens-own : (o : Opening) → opens (entryOf call l (stepWith o)) own ≡ true
+  unfolding opens
+  opens-own o = asked o own ∙ named-self Initiator (peer % peers) (genTidOf t)
+
+  given-ok : GivenOk (requestGiven q)
+  unfolding requestGiven
+  given-ok = record { time = a .enters .bounded; len = a .data-fits; exit-len = omega arith }
+
+  with-record : (o : Opening) → Asks o → Live (openedTurn t o (requester t place q) (requestGiven q) .after) → Sound l (stepWith o) → place < count t → recordAt t place .state ≡ Free
+      → Opened (entryOf call l (stepWith o))
+  unfolding requester
+  with-record o k live ok inside free =
+      opened call l o (requester t place q) (requestGiven q) (Set (nextTid (genTidOf t))) (requestCall q) (known o k ok) live given-ok inside free (opens-own o)
+
+  without : Sound l (stepWith Opening.Requested0) → Once (entryOf call l (stepWith Opening.Requested0))
+  unfolding requester openingAct actWith
+  without ok =
+      once call l (requester t place q) (requestGiven q) (Set (nextTid (genTidOf t))) (requestCall q)
+      (known Opening.Requested0 (record { role = refl; first = refl; second = refl }) ok) (opens-own Opening.Requested0)
+
+  requested1 : Sound l (stepWith Opening.Requested1) → place < count t → recordAt t place .state ≡ Free → Opened (entryOf call l (stepWith Opening.Requested1))
+  unfolding openedTurn openingTurn turnOf openingAct stored recordAfter movedTo
+  requested1 = with-record Opening.Requested1 (record { role = refl; first = refl; second = refl }) (omega arith)
+
+  requested2 : Sound l (stepWith Opening.Requested2) → place < count t → recordAt t place .state ≡ Free → Opened (entryOf call l (stepWith Opening.Requested2))
+  unfolding openedTurn openingTurn turnOf openingAct stored recordAfter movedTo
+  requested2 = with-record Opening.Requested2 (record { role = refl; first = refl; second = refl }) (omega arith)
+
+  not-zero : eqb (class % 256) 0 ≡ false → (class ≡ 0) ⊎ (recordAt t place .state ≡ Free) → recordAt t place .state ≡ Free
+  not-zero e (inl z) = absurd (omega (arith, eqb-false (class % 256) 0 e))
+  not-zero e (inr free) = free
+
+  its-move : place < count t → (class ≡ 0) ⊎ (recordAt t place .state ≡ Free) → Sound l (requestStep t place q) → Opened (entryOf call l (requestStep t place q)) ⊎ Once (entryOf call l (requestStep t place q))
+  unfolding requestStep requestedOf
+  its-move inside free = go (eqb (class % 256) 0) (eqb (class % 256) 1) refl
+    where
+      go : (b c : Bool) → eqb (class % 256) 0 ≡ b → Sound l (stepWith (pick b Opening.Requested0 (pick c Opening.Requested1 Opening.Requested2)))
+          → Opened (entryOf call l (stepWith (pick b Opening.Requested0 (pick c Opening.Requested1 Opening.Requested2)))) ⊎ Once (entryOf call l (stepWith (pick b Opening.Requested0 (pick c Opening.Requested1 Opening.Requested2))))
+      go true c e ok = inr (without ok)
+      go false true e ok = inl (requested1 ok inside (not-zero e free))
+      go false false e ok = inl (requested2 ok inside (not-zero e free))
+
+pub request-move : (l : Lent) (time peer class : ℕ) (userAck : Bool) → Fits l → (step : Step)
+    → requestPlan (l .table) (length (l .store)) (length (l .output)) (asRequest time peer class userAck (length (l .given))) ≡ Go step → Sound l step
+    → Opened (entryOf (Call.Request time peer class userAck) l step) ⊎ Once (entryOf (Call.Request time peer class userAck) l step)
+request-move l time peer class userAck f step e ok =
+    let q : Request = asRequest time peer class userAck (length (l .given)) in
+    let a : Accepted (l .table) (length (l .store)) (length (l .output)) q step = request-accepted (l .table) (length (l .store)) (length (l .output)) q step e in
+    rw (a .step-is) (its-move l time peer class userAck f (a .admits) (placeOf (l .table)) (a .inside) (a .place-free) (rw (a .step-is) at ok))

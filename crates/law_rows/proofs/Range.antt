@@ -1,0 +1,155 @@
+-- A turn of a record within its bounds under the row for its own conditions gives one within its bounds, and so does an opening. Assumes nothing.
+use Prim.Native.Nat.{ℕ, _+_, _≤_, _<_, _%_}
+use native.Mathlib.Omega.{arith}
+use mathlib.Core.Path.{_≡_, refl}
+use mathlib.Core.Bool.{Bool, true, false, Bool·beq}
+use mathlib.Core.List.{List, [], _∷_}
+use borrow.Author.Tests.{ltb-true, lt-ltb}
+use lib.Dec.{ltb, eqb}
+use lib.ListN.{getD}
+use Rattle.base_lists.specs.Seq.{pick, every}
+use Rattle.table_record.specs.Record.{stateOf, classOf}
+use Rattle.table_record.specs.declared.State.{State}
+use Rattle.table_record.specs.declared.Record.{Record}
+use Rattle.table_record.specs.declared.Rcr.{Rcr}
+use Rattle.table_record.specs.declared.Aec.{Aec}
+use Rattle.table_layout.specs.declared.Settings.{Settings}
+use Rattle.row_events.specs.declared.Event.{Event}
+use Rattle.row_events.specs.declared.Conditions.{Conditions}
+use Rattle.row_events.specs.declared.Opening.{Opening}
+use Rattle.row_events.proofs.Finite.{allFlags, at-flags, at-state, at-opening}
+use Rattle.row_choice.specs.Rows.{rowOf}
+use Rattle.row_conditions.specs.Conditions.{moreOf, conditionsOf}
+use Rattle.row_columns.specs.Columns.{actWith, taken, acked, stored, shown}
+use Rattle.row_columns.specs.declared.Next.{Next}
+use Rattle.row_columns.specs.declared.Next.the-variants.{Stays, Ends, Goes}
+use Rattle.row_columns.specs.declared.Timer.{Timer}
+use Rattle.row_columns.specs.declared.Timer.the-variants as Timer
+use Rattle.row_columns.specs.declared.Count.{Count}
+use Rattle.row_columns.specs.declared.Count.the-variants as Count
+use Rattle.row_columns.specs.declared.ExitInfo.{ExitInfo}
+use Rattle.row_columns.specs.declared.ExitInfo.the-variants as ExitInfo
+use Rattle.row_columns.specs.declared.Act.{Act}
+use Rattle.row_entries.specs.Acts.{actOf, openingAct}
+use Rattle.table_tids.specs.Tids.{intervalOf}
+use Rattle.table_ranges.specs.Ranges.{peers, intervalBound, deadlineBound, tidBound, exitBound, cellSize}
+use Rattle.row_turns.specs.Turns.{upOf, rcrAfter, aecAfter, exitLenAfter, lenAfter, deadlineAfter, newRecord, movedTo, recordAfter, turnOf, rowTurn, openingTurn}
+use Rattle.row_turns.specs.declared.Given.{Given}
+use Rattle.law_rows.specs.Shown.{actAt}
+use Rattle.table_record_ok.specs.OneRecord.{Bounded}
+use Rattle.law_rows.specs.Range.{Within}
+use Rattle.law_rows.proofs.Rows.{same-self}
+
+-- a counter goes up only where it is below its maximum
+abbrev pub allowed : Count → Bool → Bool → Bool
+allowed Count.Same rcr aec = true
+allowed Count.RcrZero rcr aec = true
+allowed Count.RcrUp rcr aec = rcr
+allowed Count.AecZero rcr aec = true
+allowed Count.AecUp rcr aec = aec
+
+module _ (kind reason : ℕ) (tidok : Bool) where
+  asked : State → Event → Conditions → List Bool → Bool
+  asked s e c l =
+      pick (Bool·beq (c .more) (moreOf s (getD l 0 false) (getD l 1 false)))
+      (allowed (actAt s e c tidok kind reason .count) (getD l 0 false) (getD l 1 false)) true
+
+  all-asked : (s : State) (e : Event) (c : Conditions) → allFlags 2 (asked s e c) ≡ true
+  unfolding asked allFlags every stateOf rowOf actOf actWith taken acked stored shown
+  all-asked s e c = at-state (λ s e c. allFlags 2 (asked s e c)) refl s e c
+
+  pub counts-allowed : (e : Event) (s : Settings) (r : Record)
+      → allowed (actAt (r .state) e (conditionsOf s r) tidok kind reason .count) (ltb (r .rcr .0) (s .«rcr_max»)) (ltb (r .aec .0) (s .«aec_max»)) ≡ true
+  unfolding asked conditionsOf
+  counts-allowed e s r =
+      rw (same-self (conditionsOf s r .more)) at
+      (at-flags (ltb (r .rcr .0) (s .«rcr_max») ∷ ltb (r .aec .0) (s .«aec_max») ∷ []) (asked (r .state) e (conditionsOf s r)) (all-asked (r .state) e (conditionsOf s r)))
+
+up-within : (n max : ℕ) → ltb n max ≡ true → upOf n ≤ max
+unfolding upOf
+up-within n max less = go (ltb n 8)
+  where
+    go : (b : Bool) → pick b (n + 1) n ≤ max
+    go true = omega (arith, ltb-true n max less)
+    go false = omega (arith, ltb-true n max less)
+
+-- "RCR + 1" and "AEC + 1" are just that below a maximum of at most 8
+pub up-exact : (n max : ℕ) → n < max → max ≤ 8 → upOf n ≡ n + 1
+unfolding upOf
+up-exact n max less small = let below : n < 8 = omega arith in rw (lt-ltb n 8 below)
+
+pub rcr-within : (k : Count) (n : Rcr) (max : ℕ) (aec : Bool) → allowed k (ltb (n .0) max) aec ≡ true → n .0 ≤ max → rcrAfter k n .0 ≤ max
+rcr-within Count.Same n max aec ok h = h
+rcr-within Count.RcrZero n max aec ok h = omega arith
+rcr-within Count.RcrUp n max aec ok h = up-within (n .0) max ok
+rcr-within Count.AecZero n max aec ok h = h
+rcr-within Count.AecUp n max aec ok h = h
+
+aec-within : (k : Count) (n : Aec) (max : ℕ) (rcr : Bool) → allowed k rcr (ltb (n .0) max) ≡ true → n .0 ≤ max → aecAfter k n .0 ≤ max
+aec-within Count.Same n max rcr ok h = h
+aec-within Count.RcrZero n max rcr ok h = h
+aec-within Count.RcrUp n max rcr ok h = h
+aec-within Count.AecZero n max rcr ok h = omega arith
+aec-within Count.AecUp n max rcr ok h = up-within (n .0) max ok
+
+exit-within : (x : ExitInfo) (was given : ℕ) → was ≤ exitBound → given ≤ exitBound → exitLenAfter x was given ≤ exitBound
+exit-within ExitInfo.Same was given h k = h
+exit-within ExitInfo.Given was given h k = k
+exit-within ExitInfo.Empty was given h k = omega arith
+
+len-within : (cell : Bool) (was given : ℕ) → was ≤ cellSize → given ≤ cellSize → lenAfter cell was given ≤ cellSize
+len-within true was given h k = k
+len-within false was given h k = h
+
+module _ (g : Given) (s : Settings) (rows : List (List ℕ)) (within : Within g s rows) where
+  interval-within : (class : ℕ) (n : Rcr) → intervalOf rows class n ≤ intervalBound
+  unfolding intervalOf
+  interval-within class n = go (eqb class 1)
+    where
+      go : (c : Bool) → getD (getD rows (pick c 0 1) []) (n .0 % 9) 0 ≤ intervalBound
+      go true = within .intervals 0 (n .0 % 9) (omega arith) (omega arith)
+      go false = within .intervals 1 (n .0 % 9) (omega arith) (omega arith)
+
+  deadline-within : (t : Timer) (was r : ℕ) → was ≤ deadlineBound → r ≤ intervalBound → deadlineAfter t was (g .time) s r ≤ deadlineBound
+  deadline-within Timer.Runs was r h k = h
+  deadline-within Timer.Stop was r h k = omega arith
+  deadline-within Timer.A was r h k = omega (arith, within .time, within .a)
+  deadline-within Timer.W was r h k = omega (arith, within .time, within .w)
+  deadline-within Timer.R was r h k = omega (arith, within .time)
+
+  pub new-in-range : (peer tid : ℕ) (userAck : Bool) → peer < peers → tid ≤ tidBound → Bounded s (newRecord peer tid userAck)
+  unfolding newRecord
+  new-in-range peer tid userAck p t = record { tid = t; rcr = omega arith; aec = omega arith; exit = omega arith; deadline = omega arith; message = omega arith; peer = p }
+
+  module _ (r : Record) (a : Act) (ok : Bounded s r) (counts : allowed (a .count) (ltb (r .rcr .0) (s .«rcr_max»)) (ltb (r .aec .0) (s .«aec_max»)) ≡ true) where
+    moved-in-range : (state : State) → Bounded s (movedTo state a r g s rows)
+    unfolding movedTo
+    moved-in-range state = record {
+      tid = ok .tid;
+      rcr = rcr-within (a .count) (r .rcr) (s .«rcr_max») (ltb (r .aec .0) (s .«aec_max»)) counts (ok .rcr);
+      aec = aec-within (a .count) (r .aec) (s .«aec_max») (ltb (r .rcr .0) (s .«rcr_max»)) counts (ok .aec);
+      exit = exit-within (a .exit) (r .«exit_len») (g .«exit_len») (ok .exit) (within .exitLen);
+      deadline = deadline-within (a .timer) (r .deadline) (intervalOf rows (classOf state) (rcrAfter (a .count) (r .rcr))) (ok .deadline) (interval-within (classOf state) (rcrAfter (a .count) (r .rcr)));
+      message = len-within (a .cell) (r .len) (g .len) (ok .message) (within .len);
+      peer = ok .peer;
+    }
+
+    after-in-range : (n : Next) → Bounded s (recordAfter n a r g s rows)
+    unfolding recordAfter
+    after-in-range Stays = moved-in-range (r .state)
+    after-in-range Ends = new-in-range 0 0 false (omega arith) (omega arith)
+    after-in-range (Goes state) = moved-in-range state
+
+  -- a live record under the row for its own conditions
+  pub turn-in-range : (e : Event) (r : Record) → Bounded s r → Bounded s (rowTurn (rowOf (r .state) e (conditionsOf s r)) r g s rows .after)
+  unfolding rowTurn turnOf
+  turn-in-range e r ok =
+      let a = actAt (r .state) e (conditionsOf s r) (r .«tidok_sent») (g .kind) (g .reason) in
+      after-in-range r a ok (counts-allowed (g .kind) (g .reason) (r .«tidok_sent») e s r) (a .next)
+
+  -- a new record under an opening
+  pub opening-in-range : (o : Opening) (r : Record) → Bounded s r → Bounded s (openingTurn o r g s rows .after)
+  unfolding openingTurn turnOf every openingAct actWith stored shown
+  opening-in-range o r ok =
+      let counts : Opening → Bool = λ x. allowed (openingAct x .count) (ltb (r .rcr .0) (s .«rcr_max»)) (ltb (r .aec .0) (s .«aec_max»)) in
+      after-in-range r (openingAct o) ok (at-opening counts refl o) (openingAct o .next)

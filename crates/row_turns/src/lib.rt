@@ -1,0 +1,264 @@
+// A turn: the right-hand side of a row applied to a record.
+ghost use mathlib.Core.Path.{_≡_};
+ghost use Prim.Native.Nat.{_≤_};
+ghost use Rattle.table_ranges.specs.Ranges.{timeBound};
+ghost use Rattle.row_turns.specs.Turns.{upOf, rcrAfter, aecAfter, holdOnAfter, tidokSentAfter, holdOnSentAfter, exitLenAfter, storesExit, lenAfter, noTimer, deadlineAfter, newRecord, movedTo, recordAfter, turnOf, rowTurn, openingTurn};
+use row_columns::Act;
+use row_columns::Cache;
+use row_columns::Count;
+use row_columns::ExitInfo;
+use row_columns::Indication;
+use row_columns::Mark;
+use row_columns::Next;
+use row_columns::Send;
+use row_columns::Timer;
+use row_events::Opening;
+use row_events::Row;
+use table_layout::Settings;
+use table_record::Aec;
+use table_record::Rcr;
+use table_record::Record;
+use table_record::State;
+
+// What came with the event: the time, an abort's type and reason, the lengths of the message and of the exit information.
+pub struct Given {
+    pub time: u64,
+    pub kind: u8,
+    pub reason: u8,
+    pub len: u32,
+    pub exit_len: u8,
+}
+
+// The record afterwards (free where it ended), what is sent and indicated in order, whether the message goes to the cell
+// and the exit information to the record, and what becomes of LastTID.
+pub struct Turn {
+    pub after: Record,
+    pub send: Send,
+    pub first: Indication,
+    pub second: Indication,
+    pub cell: bool,
+    pub exit: bool,
+    pub cache: Cache,
+}
+
+// No counter passes 8.
+fn up(n: u8) -> u8
+    ensures { λ v. ⌜ v ≡ upOf n ⌝ }
+{
+    if n < 8 { n + 1 } else { n }
+}
+
+fn rcr_after(c: Count, rcr: Rcr) -> Rcr
+    ensures { λ v. ⌜ v ≡ rcrAfter c rcr ⌝ }
+{
+    match c {
+        Count::Same => rcr,
+        Count::RcrZero => Rcr(0),
+        Count::RcrUp => Rcr(up(rcr.0)),
+        Count::AecZero => rcr,
+        Count::AecUp => rcr,
+    }
+}
+
+fn aec_after(c: Count, aec: Aec) -> Aec
+    ensures { λ v. ⌜ v ≡ aecAfter c aec ⌝ }
+{
+    match c {
+        Count::Same => aec,
+        Count::RcrZero => aec,
+        Count::RcrUp => aec,
+        Count::AecZero => Aec(0),
+        Count::AecUp => Aec(up(aec.0)),
+    }
+}
+
+fn hold_on_after(m: Mark, was: bool) -> bool
+    ensures { λ b. ⌜ b ≡ holdOnAfter m was ⌝ }
+{
+    match m {
+        Mark::Same => was,
+        Mark::HoldOn => true,
+        Mark::TidokSent => was,
+        Mark::HoldOnSent => was,
+    }
+}
+
+fn tidok_sent_after(m: Mark, was: bool) -> bool
+    ensures { λ b. ⌜ b ≡ tidokSentAfter m was ⌝ }
+{
+    match m {
+        Mark::Same => was,
+        Mark::HoldOn => was,
+        Mark::TidokSent => true,
+        Mark::HoldOnSent => was,
+    }
+}
+
+fn hold_on_sent_after(m: Mark, was: bool) -> bool
+    ensures { λ b. ⌜ b ≡ holdOnSentAfter m was ⌝ }
+{
+    match m {
+        Mark::Same => was,
+        Mark::HoldOn => was,
+        Mark::TidokSent => was,
+        Mark::HoldOnSent => true,
+    }
+}
+
+fn exit_len_after(x: ExitInfo, was: u8, given: u8) -> u8
+    ensures { λ n. ⌜ n ≡ exitLenAfter x was given ⌝ }
+{
+    match x {
+        ExitInfo::Same => was,
+        ExitInfo::Given => given,
+        ExitInfo::Empty => 0,
+    }
+}
+
+fn stores_exit(x: ExitInfo) -> bool
+    ensures { λ b. ⌜ b ≡ storesExit x ⌝ }
+{
+    match x {
+        ExitInfo::Same => false,
+        ExitInfo::Given => true,
+        ExitInfo::Empty => false,
+    }
+}
+
+fn len_after(cell: bool, was: u32, given: u32) -> u32
+    ensures { λ n. ⌜ n ≡ lenAfter cell was given ⌝ }
+{
+    if cell { given } else { was }
+}
+
+// The deadline of a record whose timer is stopped, or not started.
+fn no_timer() -> u64
+    ensures { λ v. ⌜ v ≡ noTimer ⌝ }
+{
+    0
+}
+
+fn deadline_after(t: Timer, was: u64, time: u64, s: Settings, r: u32) -> u64
+    requires { ⌜ time ≤ timeBound ⌝ }
+    ensures { λ v. ⌜ v ≡ deadlineAfter t was time s r ⌝ }
+{
+    match t {
+        Timer::Runs => was,
+        Timer::Stop => no_timer(),
+        Timer::A => time + s.a as u64,
+        Timer::W => time + s.w as u64,
+        Timer::R => time + r as u64,
+    }
+}
+
+// The record that an opening starts from; with zeros, a free record.
+pub fn new_record(peer: u8, tid: u16, user_ack: bool) -> Record
+    ensures { λ r. ⌜ r ≡ newRecord peer tid «user_ack» ⌝ }
+{
+    Record {
+        state: State::Free,
+        peer: peer,
+        tid: tid,
+        user_ack: user_ack,
+        hold_on: false,
+        tidok_sent: false,
+        hold_on_sent: false,
+        rcr: Rcr(0),
+        aec: Aec(0),
+        exit_len: 0,
+        deadline: 0,
+        len: 0,
+    }
+}
+
+// The record in its next state.
+fn moved_to(state: State, a: Act, r: Record, g: Given, s: Settings, rows: [[u32; 9]; 2]) -> Record
+    requires { ⌜ g .time ≤ timeBound ⌝ }
+    ensures { λ v. ⌜ v ≡ movedTo state a r g s rows ⌝ }
+{
+    let count = a.count;
+    let mark = a.mark;
+    let timer = a.timer;
+    let exit = a.exit;
+    let was_rcr = r.rcr;
+    let was_aec = r.aec;
+    let rcr = rcr_after(count, was_rcr);
+    let aec = aec_after(count, was_aec);
+    let hold_on = hold_on_after(mark, r.hold_on);
+    let tidok_sent = tidok_sent_after(mark, r.tidok_sent);
+    let hold_on_sent = hold_on_sent_after(mark, r.hold_on_sent);
+    let exit_len = exit_len_after(exit, r.exit_len, g.exit_len);
+    let class = table_record::class_of(state);
+    let again = table_tids::interval(rows, class, rcr);
+    let deadline = deadline_after(timer, r.deadline, g.time, s, again);
+    let len = len_after(a.cell, r.len, g.len);
+    Record {
+        state: state,
+        peer: r.peer,
+        tid: r.tid,
+        user_ack: r.user_ack,
+        hold_on: hold_on,
+        tidok_sent: tidok_sent,
+        hold_on_sent: hold_on_sent,
+        rcr: rcr,
+        aec: aec,
+        exit_len: exit_len,
+        deadline: deadline,
+        len: len,
+    }
+}
+
+fn record_after(a: Act, r: Record, g: Given, s: Settings, rows: [[u32; 9]; 2]) -> Record
+    requires { ⌜ g .time ≤ timeBound ⌝ }
+    ensures { λ v. ⌜ v ≡ recordAfter (a .next) a r g s rows ⌝ }
+{
+    let next = a.next;
+    match next {
+        Next::Stays => {
+            let state = r.state;
+            moved_to(state, a, r, g, s, rows)
+        }
+        Next::Ends => new_record(0, 0, false),
+        Next::Goes(state) => moved_to(state, a, r, g, s, rows),
+    }
+}
+
+fn turn_of(a: Act, r: Record, g: Given, s: Settings, rows: [[u32; 9]; 2]) -> Turn
+    requires { ⌜ g .time ≤ timeBound ⌝ }
+    ensures { λ t. ⌜ t ≡ turnOf a r g s rows ⌝ }
+{
+    let after = record_after(a, r, g, s, rows);
+    let send = a.send;
+    let first = a.first;
+    let second = a.second;
+    let exit = a.exit;
+    let stores = stores_exit(exit);
+    let cache = a.cache;
+    Turn {
+        after: after,
+        send: send,
+        first: first,
+        second: second,
+        cell: a.cell,
+        exit: stores,
+        cache: cache,
+    }
+}
+
+// The turn of a live record under a row.
+pub fn row_turn(row: Row, r: Record, g: Given, s: Settings, rows: [[u32; 9]; 2]) -> Turn
+    requires { ⌜ g .time ≤ timeBound ⌝ }
+    ensures { λ t. ⌜ t ≡ rowTurn row r g s rows ⌝ }
+{
+    let a = row_entries::act_of(row, r.tidok_sent, g.kind, g.reason);
+    turn_of(a, r, g, s, rows)
+}
+
+// The turn of a new record.
+pub fn opening_turn(opening: Opening, r: Record, g: Given, s: Settings, rows: [[u32; 9]; 2]) -> Turn
+    requires { ⌜ g .time ≤ timeBound ⌝ }
+    ensures { λ t. ⌜ t ≡ openingTurn opening r g s rows ⌝ }
+{
+    let a = row_entries::opening_act(opening);
+    turn_of(a, r, g, s, rows)
+}

@@ -1,9 +1,0 @@
--- `sending::tid_of` meets its contract. Assumes nothing.
-use Rattle.sending.specs.Sending.{tidOf}
-use borrow.Author.Needs.{needs}
-use Rattle.sending.proofs.tid_of.Statement.{statement}
-use Rattle.sending.proofs.tid_of.Tie as tie
-
-pub tid-of-spec : {M : Type 1} → statement M
-unfolding tidOf
-tid-of-spec = tie.close (tie.spec (λ c κs. search needs) (λ c. simp (c .send-tid .ensures)))

@@ -1,0 +1,134 @@
+-- What a received PDU is to the engine (01, "TIDs" and "Events").
+use Prim.Native.Nat.{ℕ, zero, suc, _+_, _*_, _%_}
+use mathlib.Core.List.{List}
+use mathlib.Core.Bool.{Bool, false, not}
+use lib.ListN.{length, getD}
+use lib.Dec.{ltb, leb, eqb}
+use Rattle.base_lists.specs.Seq.{pick}
+use Rattle.codec_items.specs.Items.{noItem}
+use Rattle.codec_items.specs.declared.Item.{Item}
+use Rattle.codec_pdu.specs.Pdu.{soundOf}
+use Rattle.codec_pdu.specs.declared.Kind.{Kind}
+use Rattle.codec_pdu.specs.declared.Kind.the-variants.{Invoke, Result, Ack, Abort, SegInvoke, SegResult, Nack, Wrong, Refused}
+use Rattle.codec_pdu.specs.declared.Pdu.{Pdu}
+use Rattle.codec_reading.specs.Read.{typeOf}
+use Rattle.table_record.specs.declared.Role.{Role}
+use Rattle.table_record.specs.declared.Role.the-variants.{Initiator, Responder}
+use Rattle.row_events.specs.declared.Event.{Event}
+use Rattle.row_events.specs.declared.Event.the-variants as Event
+use Rattle.row_choice.specs.declared.Arrived.{Arrived}
+use Rattle.step_arrivals.specs.declared.Name.{Name}
+use Rattle.step_arrivals.specs.declared.Name.the-variants.{Nobody, Of}
+use Rattle.step_arrivals.specs.declared.Cause.{Cause}
+use Rattle.step_arrivals.specs.declared.Info.{Info}
+use Rattle.step_arrivals.specs.declared.Wanted.{Wanted}
+
+-- 01: "then the TID, high octet first"; its top bit is 1 from 32,768 on
+unfoldable pub tidOf : List ℕ → ℕ
+tidOf s = getD s 1 0 * 256 + getD s 2 0
+
+-- 01: "Invoke with top bit 1, or Result with 0, is ignored before any test, malformed or not. Any other PDU of three octets or more names the record of its peer and low 15 TID bits, as initiator when the top bit is 1; a shorter one names none"
+unfoldable pub nameOf : List ℕ → Name
+nameOf s =
+    pick (ltb (length s) 3) Nobody
+    (pick (ltb (tidOf s) 32768)
+    (pick (eqb (typeOf s) 2) Nobody (Of Responder (tidOf s % 32768)))
+    (pick (eqb (typeOf s) 1) Nobody (Of Initiator (tidOf s % 32768))))
+
+-- 01: "The top bit is 0 towards the responder, 1 towards the initiator": the type that is ignored towards a role
+abbrev pub ignoredType : Role → ℕ
+ignoredType Initiator = 1
+ignoredType Responder = 2
+
+-- 01, "Events": what a PDU is to a live record; a length that number 11 refuses never comes and counts as malformed
+unfoldable pub eventOf : Kind → Event
+eventOf (Invoke gtr ttr rid v n u l) = pick rid Event.InvokeRid Event.Invoke
+eventOf (Result gtr ttr rid) = pick ttr (pick rid Event.ResultRid Event.Result) (pick rid Event.ResultCutRid Event.ResultCut)
+eventOf (Ack tve rid) = pick tve (pick rid Event.TidAckRid Event.TidAck) Event.PlainAck
+eventOf (Abort t r) = Event.ReceivedAbort
+eventOf (SegInvoke gtr ttr rid p) = Event.Segmented
+eventOf (SegResult gtr ttr rid p) = Event.Segmented
+eventOf (Nack rid n l) = Event.Segmented
+eventOf (Wrong d) = Event.MalformedPdu
+eventOf (Refused r) = Event.MalformedPdu
+
+abbrev pub noCause : Cause
+noCause = record { «abort_type» = 0; reason = 0 }
+
+-- 01: "for an abort also type and reason: those received"
+unfoldable pub causeOf : Kind → Cause
+causeOf (Invoke gtr ttr rid v n u l) = noCause
+causeOf (Result gtr ttr rid) = noCause
+causeOf (Ack tve rid) = noCause
+causeOf (Abort t r) = record { «abort_type» = t; reason = r }
+causeOf (SegInvoke gtr ttr rid p) = noCause
+causeOf (SegResult gtr ttr rid p) = noCause
+causeOf (Nack rid n l) = noCause
+causeOf (Wrong d) = noCause
+causeOf (Refused r) = noCause
+
+-- no Info item
+abbrev pub noInfo : Info
+noInfo = record { start = 0; len = 0 }
+
+-- the item at a place, and its data
+abbrev pub itemIn : List Item → ℕ → Item
+itemIn list at = getD list at noItem
+
+abbrev pub dataOf : Item → Info
+dataOf item = record { start = item .start; len = item .len }
+
+-- the first Info item, identity 1, among the items from `at` on, as many as the first argument says
+unfoldable pub infoFrom : ℕ → List Item → ℕ → Info
+infoFrom zero list at = noInfo
+infoFrom (suc left) list at = pick (eqb (itemIn list at .identity) 1) (dataOf (itemIn list at)) (infoFrom left list (at + 1))
+
+-- 01: "A confirmation's data is that of the first Info item of its Ack, else empty"; "At most 16 items"
+unfoldable pub infoOf : Pdu → Info
+infoOf p = infoFrom (pick (leb (p .count) 16) (p .count) 16) (p .list) 0
+
+-- 01: "type 1, at least three octets and top bit 0", malformed or not
+unfoldable pub invokesUs : List ℕ → Bool
+invokesUs s = pick (ltb (length s) 3) false (pick (eqb (typeOf s) 1) (ltb (tidOf s) 32768) false)
+
+-- 01: "Ack with TIDve (top bit 1)"
+unfoldable pub isTidve : Kind → ℕ → Bool
+isTidve (Invoke gtr ttr rid v n u l) tid = false
+isTidve (Result gtr ttr rid) tid = false
+isTidve (Ack tve rid) tid = pick tve (leb 32768 tid) false
+isTidve (Abort t r) tid = false
+isTidve (SegInvoke gtr ttr rid p) tid = false
+isTidve (SegResult gtr ttr rid p) tid = false
+isTidve (Nack rid n l) tid = false
+isTidve (Wrong d) tid = false
+isTidve (Refused r) tid = false
+
+-- nothing is asked for
+abbrev pub noWant : Wanted
+noWant = record { class = 0; «wrong_version» = false; «ttr_clear» = false }
+
+-- 01: "version not 0", "TTR clear", and the class, of an Invoke
+unfoldable pub wantedOf : Kind → Wanted
+wantedOf (Invoke gtr ttr rid version n u class) = record { class = class; «wrong_version» = ltb 0 version; «ttr_clear» = not ttr }
+wantedOf (Result gtr ttr rid) = noWant
+wantedOf (Ack tve rid) = noWant
+wantedOf (Abort t r) = noWant
+wantedOf (SegInvoke gtr ttr rid p) = noWant
+wantedOf (SegResult gtr ttr rid p) = noWant
+wantedOf (Nack rid n l) = noWant
+wantedOf (Wrong d) = noWant
+wantedOf (Refused r) = noWant
+
+-- 01, "Events": what the tests of a PDU without a live record say; "data over 1,024" is too long
+unfoldable pub arrivedOf : List ℕ → Pdu → Bool → Bool → Arrived
+arrivedOf s p full valid = record {
+  invoke = invokesUs s;
+  tidve = isTidve (p .kind) (p .tid);
+  malformed = not (soundOf (p .kind));
+  class = wantedOf (p .kind) .class;
+  «wrong_version» = wantedOf (p .kind) .«wrong_version»;
+  «ttr_clear» = wantedOf (p .kind) .«ttr_clear»;
+  «too_long» = ltb 1024 (p .len);
+  full = full;
+  valid = valid;
+}

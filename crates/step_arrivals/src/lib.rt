@@ -1,0 +1,251 @@
+// What a received PDU is to the engine (01, "TIDs" and "Events"): whom it names, which event it is, what it brings.
+ghost use mathlib.Core.Path.{_≡_};
+ghost use Prim.Native.Nat.{_+_, _≤_, _<_};
+ghost use lib.ListN.{length};
+ghost use Rattle.step_arrivals.specs.Arrivals.{tidOf, nameOf, eventOf, noCause, causeOf, infoFrom, infoOf, invokesUs, isTidve, noWant, wantedOf, arrivedOf};
+use codec_items::Item;
+use codec_pdu::Kind;
+use codec_pdu::Pdu;
+use row_choice::Arrived;
+use row_events::Event;
+use table_record::Role;
+
+// Whom a PDU names: no record, or the one of a role and a TID of 15 bits.
+pub enum Name {
+    Nobody,
+    Of(Role, u16),
+}
+
+// Type and reason of an Abort.
+pub struct Cause {
+    pub abort_type: u8,
+    pub reason: u8,
+}
+
+// Place and length of the data of an Info item.
+pub struct Info {
+    pub start: usize,
+    pub len: usize,
+}
+
+// What an Invoke asks for.
+struct Wanted {
+    class: u8,
+    wrong_version: bool,
+    ttr_clear: bool,
+}
+
+fn wide(x: u8) -> u16
+    ensures { λ r. ⌜ (r ≡ x) × (r < 256) ⌝ }
+{
+    x as u16
+}
+
+// The TID with its top bit, also of a malformed PDU.
+fn tid_of(s: &[u8]) -> u16
+    requires { ⌜ 3 ≤ length (now s) ⌝ }
+    ensures { λ r. ⌜ r ≡ tidOf (now (s .entry)) ⌝ }
+{
+    wide(s[1]) * 256 + wide(s[2])
+}
+
+// Whom the octets name, malformed or not.
+pub fn named_by(s: &[u8]) -> Name
+    ensures { λ r. ⌜ r ≡ nameOf (now (s .entry)) ⌝ }
+{
+    if s.len() < 3 {
+        return Name::Nobody;
+    }
+    let typ = s[0] / 8 % 16;
+    let tid = tid_of(s);
+    if tid < 32768 {
+        if typ == 2 {
+            return Name::Nobody;
+        }
+        return Name::Of(Role::Responder, tid % 32768);
+    }
+    if typ == 1 {
+        return Name::Nobody;
+    }
+    Name::Of(Role::Initiator, tid % 32768)
+}
+
+// The event that a PDU is to a live record. A refused length never comes here: it counts as malformed.
+pub fn event_of(p: Pdu) -> Event
+    ensures { λ r. ⌜ r ≡ eventOf (p .kind) ⌝ }
+{
+    let kind = p.kind;
+    match kind {
+        Kind::Invoke { rid, .. } => { if rid { Event::InvokeRid } else { Event::Invoke } }
+        Kind::Result { ttr, rid, .. } => {
+            if ttr {
+                if rid { Event::ResultRid } else { Event::Result }
+            } else {
+                if rid {
+                    Event::ResultCutRid
+                } else {
+                    Event::ResultCut
+                }
+            }
+        }
+        Kind::Ack { tve, rid } => {
+            if tve {
+                if rid { Event::TidAckRid } else { Event::TidAck }
+            } else {
+                Event::PlainAck
+            }
+        }
+        Kind::Abort { .. } => Event::ReceivedAbort,
+        Kind::SegInvoke { .. } => Event::Segmented,
+        Kind::SegResult { .. } => Event::Segmented,
+        Kind::Nack { .. } => Event::Segmented,
+        Kind::Wrong(_) => Event::MalformedPdu,
+        Kind::Refused(_) => Event::MalformedPdu,
+    }
+}
+
+fn no_cause() -> Cause
+    ensures { λ r. ⌜ r ≡ noCause ⌝ }
+{
+    Cause {
+        abort_type: 0,
+        reason: 0,
+    }
+}
+
+// Type and reason of an Abort; 0 and 0 of any other PDU.
+pub fn abort_of(p: Pdu) -> Cause
+    ensures { λ r. ⌜ r ≡ causeOf (p .kind) ⌝ }
+{
+    let kind = p.kind;
+    match kind {
+        Kind::Abort { abort_type, reason } => Cause {
+            abort_type: abort_type,
+            reason: reason,
+        },
+        Kind::Invoke { .. } => no_cause(),
+        Kind::Result { .. } => no_cause(),
+        Kind::Ack { .. } => no_cause(),
+        Kind::SegInvoke { .. } => no_cause(),
+        Kind::SegResult { .. } => no_cause(),
+        Kind::Nack { .. } => no_cause(),
+        Kind::Wrong(_) => no_cause(),
+        Kind::Refused(_) => no_cause(),
+    }
+}
+
+// The first Info item among the `left` items from `at` on.
+fn info_from(list: [Item; 16], at: usize, left: usize) -> Info
+    requires { ⌜ at + left ≤ 16 ⌝ }
+    ensures { λ r. ⌜ r ≡ infoFrom left list at ⌝ }
+{
+    if left == 0 {
+        return Info { start: 0, len: 0 };
+    }
+    if list[at].identity == 1 {
+        return Info {
+            start: list[at].start,
+            len: list[at].len,
+        };
+    }
+    info_from(list, at + 1, left - 1)
+}
+
+// The data of the first Info item of a PDU.
+pub fn info_of(p: Pdu) -> Info
+    ensures { λ r. ⌜ r ≡ infoOf p ⌝ }
+{
+    let list = p.list;
+    if p.count <= 16 {
+        return info_from(list, 0, p.count);
+    }
+    info_from(list, 0, 16)
+}
+
+// Whether the octets are an Invoke with top bit 0, malformed or not.
+fn invokes_us(s: &[u8]) -> bool
+    ensures { λ r. ⌜ r ≡ invokesUs (now (s .entry)) ⌝ }
+{
+    if s.len() < 3 {
+        return false;
+    }
+    if s[0] / 8 % 16 == 1 {
+        return tid_of(s) < 32768;
+    }
+    false
+}
+
+// Whether a PDU is an Ack with TIDve, top bit 1.
+fn is_tidve(kind: Kind, tid: u16) -> bool
+    ensures { λ r. ⌜ r ≡ isTidve kind tid ⌝ }
+{
+    match kind {
+        Kind::Ack { tve, .. } => { if tve { 32768 <= tid } else { false } }
+        Kind::Invoke { .. } => false,
+        Kind::Result { .. } => false,
+        Kind::Abort { .. } => false,
+        Kind::SegInvoke { .. } => false,
+        Kind::SegResult { .. } => false,
+        Kind::Nack { .. } => false,
+        Kind::Wrong(_) => false,
+        Kind::Refused(_) => false,
+    }
+}
+
+fn no_want() -> Wanted
+    ensures { λ r. ⌜ r ≡ noWant ⌝ }
+{
+    Wanted {
+        class: 0,
+        wrong_version: false,
+        ttr_clear: false,
+    }
+}
+
+// What an Invoke asks for; nothing of any other PDU.
+fn wanted_by(kind: Kind) -> Wanted
+    ensures { λ r. ⌜ r ≡ wantedOf kind ⌝ }
+{
+    match kind {
+        Kind::Invoke {
+            ttr,
+            version,
+            class,
+            ..
+        } => Wanted {
+            class: class,
+            wrong_version: 0 < version,
+            ttr_clear: !ttr,
+        },
+        Kind::Result { .. } => no_want(),
+        Kind::Ack { .. } => no_want(),
+        Kind::Abort { .. } => no_want(),
+        Kind::SegInvoke { .. } => no_want(),
+        Kind::SegResult { .. } => no_want(),
+        Kind::Nack { .. } => no_want(),
+        Kind::Wrong(_) => no_want(),
+        Kind::Refused(_) => no_want(),
+    }
+}
+
+// What the octets s and the PDU read from them are where no live record is named.
+pub fn arrived(s: &[u8], p: Pdu, full: bool, valid: bool) -> Arrived
+    ensures { λ r. ⌜ r ≡ arrivedOf (now (s .entry)) p full valid ⌝ }
+{
+    let kind = p.kind;
+    let invoke = invokes_us(s);
+    let tidve = is_tidve(kind, p.tid);
+    let malformed = !codec_pdu::sound(kind);
+    let want = wanted_by(kind);
+    Arrived {
+        invoke: invoke,
+        tidve: tidve,
+        malformed: malformed,
+        class: want.class,
+        wrong_version: want.wrong_version,
+        ttr_clear: want.ttr_clear,
+        too_long: 1024 < p.len,
+        full: full,
+        valid: valid,
+    }
+}

@@ -1,0 +1,36 @@
+-- The changes of the table that a turn stands for (01, "Numbers given back", "TIDs").
+use Prim.Native.Nat.{ℕ, _+_}
+use lib.Dec.{eqb}
+use Rattle.base_lists.specs.Seq.{pick}
+use Rattle.table_record.specs.Record.{stateNumber}
+use Rattle.table_record.specs.declared.Record.{Record}
+use Rattle.row_columns.specs.declared.Cache.{Cache}
+use Rattle.row_columns.specs.declared.Cache.the-variants as Cache
+use Rattle.row_turns.specs.declared.Turn.{Turn}
+use Rattle.step_commit.specs.declared.Change.{Change}
+use Rattle.step_commit.specs.declared.Change.the-variants as Change
+use Rattle.step_commit.specs.declared.Header.{Header}
+use Rattle.step_commit.specs.declared.Header.the-variants as Header
+use Rattle.step_commit.specs.declared.Changes.{Changes}
+
+-- a record that is live afterwards is put; what becomes of one that isn't, the second says
+unfoldable pub changeOf : Record → Change → Change
+changeOf after ended = pick (eqb (stateNumber (after .state)) 0) ended (Change.Put after)
+
+-- 01: "A valid TID becomes LastTID. A verified one does so only if none is cached"
+unfoldable pub cachedAfter : Cache → ℕ → ℕ → Header
+cachedAfter Cache.Same cached tid = Header.Kept
+cachedAfter Cache.Set cached tid = Header.Set (tid + 1)
+cachedAfter Cache.SetIfNone cached tid = pick (eqb cached 0) (Header.Set (tid + 1)) Header.Kept
+
+-- 01: "A freed record is zeroed"; a turn leaves GenTID as it is: only a request counts it
+unfoldable pub turnChanges : Turn → ℕ → ℕ → ℕ → ℕ → ℕ → Changes
+turnChanges turn place peer tid cached time = record {
+  place = place;
+  change = changeOf (turn .after) Change.Clear;
+  exit = turn .exit;
+  «gen_tid» = Header.Kept;
+  peer = peer;
+  cached = cachedAfter (turn .cache) cached tid;
+  time = time;
+}

@@ -1,0 +1,116 @@
+// Carries an accepted call's step out: the table, the cell, and last the output, one lent slice at a time.
+ghost use mathlib.Core.Path.{_≡_};
+ghost use Prim.Native.Nat.{_+_, _*_, _≤_, _<_};
+ghost use lib.ListN.{length};
+ghost use Rattle.base_lists.specs.Seq.{put};
+ghost use Rattle.table_ranges.specs.Ranges.{outputLeast};
+ghost use Rattle.step_sending.specs.Octets.{FitSend, octetsSent};
+ghost use Rattle.step_outcome.specs.Carry.{isNothing, CellFits, cellWritten, FitOut, octetsOut, Ready, lent, done, carriedOut};
+use base_numbers::Refusal;
+use row_columns::Send;
+use step_plan::Part;
+use step_plan::Step;
+use step_plan::Told;
+use step_sending::Sender;
+use step_sending::Source;
+use step_shown::Shown;
+
+// What a call gives: a refusal, or how much it sent, what it tells, and what the user is shown, in order.
+pub enum Answer {
+    Refused(Refusal),
+    Taken {
+        sent: usize,
+        told: Told,
+        first: Shown,
+        second: Shown,
+    },
+}
+
+// The message goes to the record's cell; the cell's octets past it stay.
+fn write_cell(store: &mut [u8], cell: bool, place: usize, given: &[u8], message: Part)
+    requires { ⌜ CellFits cell place message (length (now store)) (length (now given)) ⌝ }
+    ensures { λ _. ⌜ now (store .exit) ≡ cellWritten (now (store .entry)) cell place (now (given .entry)) message ⌝ }
+{
+    if cell {
+        base_lists::copy(store, place * 1024, given, message.start, message.len);
+    }
+}
+
+fn is_nothing(send: Send) -> bool
+    ensures { λ r. ⌜ r ≡ isNothing send ⌝ }
+{
+    match send {
+        Send::Nothing => true,
+        Send::Invoke(_) => false,
+        Send::Tidok(_) => false,
+        Send::LastAck(_) => false,
+        Send::HoldOn(_) => false,
+        Send::Tidve(_) => false,
+        Send::Result(_) => false,
+        Send::Abort(_, _) => false,
+    }
+}
+
+// The PDU goes straight from its source to the output's start.
+fn write_pdu(out: &mut [u8], src: &[u8], send: Send, by: Sender) -> usize
+    requires { ⌜ FitSend (now src) send by ⌝ }
+    requires { ⌜ outputLeast ≤ length (now out) ⌝ }
+    ensures { λ r. ⌜ (r ≡ length (octetsSent (now (src .entry)) send by)) × (now (out .exit) ≡ put (now (out .entry)) 0 (octetsSent (now (src .entry)) send by)) ⌝ }
+{
+    let p = step_sending::pdu_of(send, by);
+    codec_encoding::put_pdu(out, src, p)
+}
+
+// At most one PDU, from where its parts lie.
+fn send_pdu(
+    out: &mut [u8],
+    given: &[u8],
+    store: &[u8],
+    table: &[u8],
+    send: Send,
+    by: Sender,
+) -> usize
+    requires { ⌜ FitOut (now given) (now store) (now table) send by ⌝ }
+    requires { ⌜ outputLeast ≤ length (now out) ⌝ }
+    ensures { λ r. ⌜ (r ≡ length (octetsOut (now (given .entry)) (now (store .entry)) (now (table .entry)) send by)) × (now (out .exit) ≡ put (now (out .entry)) 0 (octetsOut (now (given .entry)) (now (store .entry)) (now (table .entry)) send by)) ⌝ }
+{
+    if is_nothing(send) {
+        return 0;
+    }
+    match step_sending::source_of(send) {
+        Source::Nothing => write_pdu(out, given, send, by),
+        Source::Given => write_pdu(out, given, send, by),
+        Source::Cell => write_pdu(out, store, send, by),
+        Source::Table => write_pdu(out, table, send, by),
+    }
+}
+
+// The whole step; `given` holds the message and the PDU's data, `exit` the exit information.
+pub fn carry_out(
+    table: &mut [u8],
+    store: &mut [u8],
+    out: &mut [u8],
+    given: &[u8],
+    exit: &[u8],
+    step: Step,
+) -> Answer
+    requires { ⌜ Ready (lent (now table) (now store) (now out) (now given) (now exit)) step ⌝ }
+    ensures { λ r. ⌜ done r (now (table .exit)) (now (store .exit)) (now (out .exit)) ≡ carriedOut (lent (now (table .entry)) (now (store .entry)) (now (out .entry)) (now (given .entry)) (now (exit .entry))) step ⌝ }
+{
+    let changes = step.changes;
+    let message = step.message;
+    let send = step.send;
+    let by = step.by;
+    let told = step.told;
+    let first = step.first;
+    let second = step.second;
+    step_commit::commit(&mut *table, changes, exit);
+    write_cell(&mut *store, step.cell, changes.place, given, message);
+    let sent = send_pdu(out, given, store, table, send, by);
+    Answer::Taken {
+        sent: sent,
+        told: told,
+        first: first,
+        second: second,
+    }
+}

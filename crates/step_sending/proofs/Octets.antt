@@ -1,0 +1,88 @@
+-- The octets of each PDU that is sent are those written out, and at most 1,028. Assumes nothing.
+use Prim.Native.Nat.{ℕ, _+_, _*_, _%_, _<_, _≤_}
+use native.Mathlib.Omega.{arith}
+use mathlib.Core.Path.{_≡_, refl, ap, _∙_}
+use mathlib.Core.List.{List, [], _∷_, _++_, append-nil}
+use mathlib.Core.Bool.{Bool, true, false}
+use lib.ListN.{length}
+use lib.Dec.{ltb, eqb}
+use Rattle.base_lists.specs.Seq.{pick, bit}
+use Rattle.base_lists.proofs.Laws.{length-part}
+use Rattle.table_record.specs.Record.{sendTid}
+use Rattle.codec_encoding.specs.Write.{typeNumber, flagsOf, extraOf, headerOf, formOf, itemOctets, itemsOctets, octetsOf}
+use Rattle.table_ranges.specs.Ranges.{exitBound, outputLeast}
+use Rattle.row_columns.specs.declared.Send.{Send}
+use Rattle.row_columns.specs.declared.Send.the-variants.{Nothing, Invoke, Tidok, LastAck, HoldOn, Tidve, Result, Abort}
+use Rattle.step_sending.specs.declared.Sender.{Sender}
+use Rattle.step_sending.specs.Sending.{tidOf, plainPdu, exitItems, lastAckPdu, sentPdu}
+use Rattle.step_sending.specs.Octets.{withTid, message, exit, exitOctets, octetsSent, FitSend}
+
+-- a TID of 15 bits is sent whole
+pub tid-whole : (by : Sender) → by .tid < 32768 → tidOf by ≡ sendTid (by .role) (by .tid)
+unfolding tidOf
+tid-whole by h = let e : by .tid % 32768 ≡ by .tid = omega arith in ap (sendTid (by .role)) e
+
+-- what is picked, seen through a function
+picked : {A B : Type 0} (f : A → B) (b : Bool) (x y : A) (u v : B) → f x ≡ u → f y ≡ v → f (pick b x y) ≡ pick b u v
+picked f true x y u v d e = d
+picked f false x y u v d e = e
+
+exit-form : (long : Bool) (len : ℕ) (body : List ℕ) → formOf long 8 len body ≡ pick long (0x0C ∷ len ∷ body) ((0x08 + len) ∷ body)
+exit-form true len body = refl
+exit-form false len body = refl
+
+exit-item : (s : List ℕ) (by : Sender) → (formOf (ltb 3 (by .«exit_len»)) 8 (by .«exit_len») (exit s by) ++ []) ++ [] ≡ exitOctets s by
+exit-item s by =
+    append-nil _ ∙ append-nil _ ∙ exit-form (ltb 3 (by .«exit_len»)) (by .«exit_len») (exit s by)
+
+last-ack : (s : List ℕ) (again : Bool) (by : Sender) → octetsOf s (lastAckPdu again by) ≡ octetsSent s (LastAck again) by
+unfolding lastAckPdu plainPdu exitItems octetsOf headerOf typeNumber flagsOf extraOf itemsOctets itemOctets octetsSent
+last-ack s true by = picked (octetsOf s) (eqb (by .«exit_len») 0) _ _ _ _ refl (ap (withTid by 0x99) (exit-item s by))
+last-ack s false by = picked (octetsOf s) (eqb (by .«exit_len») 0) _ _ _ _ refl (ap (withTid by 0x98) (exit-item s by))
+
+-- version 0 and TIDnew clear leave U/P and the class
+invoke-octet : (s : List ℕ) (by : Sender) (first : ℕ)
+    → withTid by first ((0 + bit (by .«user_ack») * 16 + by .class) ∷ message s by) ≡ withTid by first ((bit (by .«user_ack») * 16 + by .class) ∷ message s by)
+invoke-octet s by first =
+    let e : 0 + bit (by .«user_ack») * 16 + by .class ≡ bit (by .«user_ack») * 16 + by .class = omega arith in
+    ap (λ (o : ℕ). withTid by first (o ∷ message s by)) e
+
+pub octets-are : (s : List ℕ) (send : Send) (by : Sender) → FitSend s send by → octetsOf s (sentPdu send by) ≡ octetsSent s send by
+unfolding sentPdu plainPdu octetsOf headerOf typeNumber flagsOf extraOf itemsOctets octetsSent FitSend
+octets-are s Nothing by f = absurd f
+octets-are s (Invoke true) by f = invoke-octet s by 0x0F
+octets-are s (Invoke false) by f = invoke-octet s by 0x0E
+octets-are s (Tidok true) by f = refl
+octets-are s (Tidok false) by f = refl
+octets-are s (LastAck again) by f = last-ack s again by
+octets-are s (HoldOn true) by f = refl
+octets-are s (HoldOn false) by f = refl
+octets-are s (Tidve true) by f = refl
+octets-are s (Tidve false) by f = refl
+octets-are s (Result true) by f = refl
+octets-are s (Result false) by f = refl
+octets-are s (Abort kind reason) by f = refl
+
+exit-length : (long : Bool) (len : ℕ) (body : List ℕ) → length body ≡ len → len ≤ exitBound
+    → length (pick long (0x0C ∷ len ∷ body) ((0x08 + len) ∷ body)) ≤ 130
+exit-length true len body e h = omega arith
+exit-length false len body e h = omega arith
+
+-- what is picked of two lists is no longer than either may be
+picked-length : (b : Bool) (x y : List ℕ) → length x ≤ outputLeast → length y ≤ outputLeast → length (pick b x y) ≤ outputLeast
+picked-length true x y d e = d
+picked-length false x y d e = e
+
+pub sent-length : (s : List ℕ) (send : Send) (by : Sender) → FitSend s send by → length (octetsSent s send by) ≤ outputLeast
+unfolding octetsSent FitSend
+sent-length s Nothing by f = absurd f
+sent-length s (Invoke again) by f = omega (arith, length-part s (by .start) (by .len) (f .1), f .2)
+sent-length s (Tidok again) by f = omega arith
+sent-length s (LastAck again) by f =
+    let item : length (exitOctets s by) ≤ 130 =
+    exit-length (ltb 3 (by .«exit_len»)) (by .«exit_len») (exit s by) (length-part s (by .«exit_start») (by .«exit_len») (f .0)) (f .1) in
+    picked-length (eqb (by .«exit_len») 0) _ _ (omega arith) (omega arith)
+sent-length s (HoldOn again) by f = omega arith
+sent-length s (Tidve again) by f = omega arith
+sent-length s (Result again) by f = omega (arith, length-part s (by .start) (by .len) (f .0), f .1)
+sent-length s (Abort kind reason) by f = omega arith

@@ -1,9 +1,0 @@
--- `steps::no_part` meets its contract: the way to each return picks the case of the definition. Assumes nothing.
-use mathlib.Core.Path.{refl}
-use Rattle.steps.specs.Steps.{noPart}
-use Rattle.steps.proofs.no_part.Statement.{statement}
-use Rattle.steps.proofs.no_part.Tie as tie
-
-pub no-part-spec : {M : Type 1} → statement M
-unfolding noPart
-no-part-spec = tie.close (tie.spec (λ c. refl))

@@ -1,9 +1,0 @@
--- `table::clock_of` meets its contract. Assumes nothing.
-use Rattle.table.specs.Table.{clockOf}
-use borrow.Author.Needs.{needs}
-use Rattle.table.proofs.clock_of.Statement.{statement}
-use Rattle.table.proofs.clock_of.Tie as tie
-
-pub clock-of-spec : {M : Type 1} → statement M
-unfolding clockOf
-clock-of-spec = tie.close (tie.spec (λ c κs. search needs) (λ c. cc))

@@ -1,0 +1,15 @@
+-- `table_fresh::right_size` meets its contract. Assumes nothing.
+use borrow.Author.Tests.{le-leb, lt-leb}
+use Rattle.table_fresh.specs.Fresh.{rightSize}
+use borrow.Author.Needs.{needs}
+use Rattle.table_fresh.proofs.right_size.Statement.{statement}
+use Rattle.table_fresh.proofs.right_size.Tie as tie
+
+pub right-size-spec : {M : Type 1} → statement M
+unfolding rightSize
+right-size-spec =
+    tie.close (tie.spec
+    (λ c. search needs)
+    (λ c. simp (le-leb _ _ (c .if2 .taken), le-leb _ _ (c .before .if1 .taken)))
+    (λ c. simp (lt-leb _ _ (c .if2 .left), le-leb _ _ (c .before .if1 .taken)))
+    (λ c. simp (lt-leb _ _ (c .if1 .left))))

@@ -1,0 +1,67 @@
+-- The header of a well-formed table (01, "What the reader carries"): as a sentence, and as a test.
+use Prim.Native.Nat.{ℕ, _+_, _*_, _≤_, _<_}
+use mathlib.Core.List.{List, [], _∷_}
+use mathlib.Core.Bool.{Bool}
+use lib.ListN.{getD}
+use lib.Dec.{leb}
+use Rattle.base_lists.specs.Seq.{every}
+use Rattle.base_octets.specs.Octets.{num, gets}
+use Rattle.table_layout.specs.Table.{clockOf, genTidOf, settingsOf, rowsOf, cachedOf}
+use Rattle.table_layout.specs.declared.Settings.{Settings}
+use Rattle.table_ranges.specs.Ranges.{timeBound, tidBound, maximumBound, peers, Interval, interval, Zeros, zeros, allOf}
+
+-- where the header's spare octets lie, and how many they are
+abbrev pub spareStart : ℕ
+spareStart = 92
+
+abbrev pub spareSize : ℕ
+spareSize = 20
+
+-- the cached TID of a peer is 0 or a TID and 1
+abbrev pub cachedBound : ℕ
+cachedBound = tidBound + 1
+
+-- 01: "RCR_MAX and AEC_MAX are 0 to 8. The intervals A, W and R are 1 to 86,400,000"
+pub record SettingsOk (s : Settings) : Type 0 where
+  pub rcr-max : s .«rcr_max» ≤ maximumBound
+  pub aec-max : s .«aec_max» ≤ maximumBound
+  pub interval-a : Interval (s .a)
+  pub interval-w : Interval (s .w)
+
+-- 01: "one of two rows of nine intervals, class 1 and class 2"
+abbrev pub RowsOk : List (List ℕ) → Type 0
+RowsOk rows = (row rcr : ℕ) → row < 2 → rcr < 9 → Interval (getD (getD rows row []) rcr 0)
+
+-- 01: "A table is well formed when all fields are in range", those before the records
+pub record HeaderOk (t : List ℕ) : Type 0 where
+  pub clock : clockOf t ≤ timeBound
+  pub gen-tid : genTidOf t ≤ tidBound
+  pub settings : SettingsOk (settingsOf t)
+  pub spare : Zeros t spareStart spareSize
+  pub rows : RowsOk (rowsOf t)
+  pub cached : (peer : ℕ) → peer < peers → cachedOf t peer ≤ cachedBound
+
+-- the test of the settings
+abbrev pub settingsTests : Settings → List Bool
+settingsTests s = leb (s .«rcr_max») maximumBound ∷ leb (s .«aec_max») maximumBound ∷ interval (s .a) ∷ interval (s .w) ∷ []
+
+unfoldable pub settingsOk : Settings → Bool
+settingsOk s = allOf (settingsTests s)
+
+-- the k-th of the 18 intervals, row after row
+unfoldable pub intervalAt : List ℕ → ℕ → ℕ
+intervalAt t k = num (gets 4 (20 + k * 4) t)
+
+-- the test of the header
+abbrev pub headerTests : List ℕ → List Bool
+headerTests t =
+    leb (clockOf t) timeBound
+    ∷ leb (genTidOf t) tidBound
+    ∷ settingsOk (settingsOf t)
+    ∷ zeros t spareStart spareSize
+    ∷ every (λ k. interval (intervalAt t k)) 18
+    ∷ every (λ peer. leb (cachedOf t peer) cachedBound) peers
+    ∷ []
+
+unfoldable pub headerOk : List ℕ → Bool
+headerOk t = allOf (headerTests t)

@@ -1,0 +1,53 @@
+// Numbers in their ranges, and octets that must be zero.
+ghost use mathlib.Core.Path.{_≡_};
+ghost use Prim.Native.Nat.{_+_, _*_, _≤_};
+ghost use lib.ListN.{length};
+ghost use lib.Dec.{leb};
+ghost use Rattle.table_ranges.specs.Ranges.{timeBound, tidBound, maximumBound, interval, zeros};
+
+pub fn time_ok(time: u64) -> bool
+    ensures { λ r. ⌜ r ≡ leb time timeBound ⌝ }
+{
+    time <= 1000000000000
+}
+
+pub fn tid_ok(tid: u16) -> bool
+    ensures { λ r. ⌜ r ≡ leb tid tidBound ⌝ }
+{
+    tid <= 32767
+}
+
+// RCR_MAX or AEC_MAX.
+pub fn maximum_ok(n: u8) -> bool
+    ensures { λ r. ⌜ r ≡ leb n maximumBound ⌝ }
+{
+    n <= 8
+}
+
+// A, W or one of R.
+pub fn interval_ok(v: u32) -> bool
+    ensures { λ r. ⌜ r ≡ interval v ⌝ }
+{
+    if 1 <= v { v <= 86400000 } else { false }
+}
+
+pub fn zero4(t: &[u8], at: usize) -> bool
+    requires { ⌜ at + 4 ≤ length (now t) ⌝ }
+    ensures { λ r. ⌜ r ≡ zeros (now (t .entry)) at 4 ⌝ }
+{
+    base_octets::get32(t, at) == 0
+}
+
+// Whether n words of eight octets are zero, gathered without an early exit: it becomes a few wide loads.
+pub fn zero_words(t: &[u8], at: usize, n: usize) -> bool
+    requires { ⌜ at + n * 8 ≤ length (now t) ⌝ }
+    ensures { λ r. ⌜ r ≡ zeros (now (t .entry)) at (n * 8) ⌝ }
+{
+    let mut bits = 0u64;
+    let mut i = 0;
+    while i < n {
+        bits = bits | base_octets::get64(t, at + i * 8);
+        i += 1;
+    }
+    bits == 0
+}

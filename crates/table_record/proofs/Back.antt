@@ -1,0 +1,66 @@
+-- What is encoded is decoded as it was, and the octet of a state names it. Assumes nothing.
+use mathlib.Core.Path.{_≡_, refl}
+use mathlib.Core.Bool.{Bool, true, false}
+use Prim.Native.Nat.{ℕ, _+_, _*_, _/_, _%_, _^_, _<_}
+use native.Mathlib.Omega.{arith}
+use lib.ListN.{length}
+use lib.Dec.{eqb}
+use Rattle.base_lists.specs.Seq.{bit}
+use Rattle.base_lists.proofs.Laws.{bit-le}
+use Rattle.base_octets.specs.Octets.{enc, gets}
+use Rattle.base_octets.proofs.Laws.{num-enc}
+use Rattle.table_record.specs.Record.{stateNumber, stateOf, flagsOf, decoded, octetsOf}
+use Rattle.table_record.specs.declared.State.{State}
+use Rattle.table_record.specs.declared.State.the-variants.{Free, IResultWait1, IResultWait2, IResultRespWait, IWaitTimeout, RTidokWait1, RTidokWait2, RInvokeRespWait1, RInvokeRespWait2, RResultWait, RResultRespWait, RWaitTimeout}
+use Rattle.table_record.specs.declared.Record.{Record}
+
+pub state-back : (s : State) → stateOf (stateNumber s) ≡ s
+unfolding stateOf
+state-back Free = refl
+state-back IResultWait1 = refl
+state-back IResultWait2 = refl
+state-back IResultRespWait = refl
+state-back IWaitTimeout = refl
+state-back RTidokWait1 = refl
+state-back RTidokWait2 = refl
+state-back RInvokeRespWait1 = refl
+state-back RInvokeRespWait2 = refl
+state-back RResultWait = refl
+state-back RResultRespWait = refl
+state-back RWaitTimeout = refl
+
+pub length-octets : (r : Record) → length (octetsOf r) ≡ 20
+unfolding octetsOf enc
+length-octets r = refl
+
+-- the numbers of a record have room in its octets
+pub record Fits (r : Record) : Type 0 where
+  pub tid : r .tid < 65536
+  pub deadline : r .deadline < 2 ^ 64
+  pub len : r .len < 2 ^ 32
+
+bit-back : (b : Bool) (x : ℕ) → x ≡ bit b → eqb x 1 ≡ b
+bit-back true x e = rw e
+bit-back false x e = rw e
+
+pub flags-small : (r : Record) → flagsOf r < 16
+unfolding flagsOf
+flags-small r = omega (arith, bit-le (r .«user_ack»), bit-le (r .«hold_on»), bit-le (r .«tidok_sent»), bit-le (r .«hold_on_sent»))
+
+module _ (a b c d : Bool) where
+  abbrev flags : ℕ
+  flags = bit a + 2 * bit b + 4 * bit c + 8 * bit d
+
+  flags-back : (eqb (flags % 2) 1 ≡ a) × (eqb (flags / 2 % 2) 1 ≡ b) × (eqb (flags / 4 % 2) 1 ≡ c) × (eqb (flags / 8 % 2) 1 ≡ d)
+  flags-back = (
+    bit-back a (flags % 2) (omega (arith, bit-le a, bit-le b, bit-le c, bit-le d)),
+    bit-back b (flags / 2 % 2) (omega (arith, bit-le a, bit-le b, bit-le c, bit-le d)),
+    bit-back c (flags / 4 % 2) (omega (arith, bit-le a, bit-le b, bit-le c, bit-le d)),
+    bit-back d (flags / 8 % 2) (omega (arith, bit-le a, bit-le b, bit-le c, bit-le d)),
+  )
+
+pub decoded-back : (r : Record) → Fits r → decoded (octetsOf r) ≡ r
+unfolding decoded octetsOf enc gets flagsOf
+decoded-back r h =
+    let f = flags-back (r .«user_ack») (r .«hold_on») (r .«tidok_sent») (r .«hold_on_sent») in
+    simp (state-back (r .state), num-enc 2 (r .tid) (h .tid), num-enc 8 (r .deadline) (h .deadline), num-enc 4 (r .len) (h .len), f .0, f .1, f .2, f .3)

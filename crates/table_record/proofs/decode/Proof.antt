@@ -1,0 +1,13 @@
+-- `table_record::decode` meets its contract, field by field. Assumes nothing.
+use Rattle.table_record.specs.Record.{decoded}
+use borrow.Author.Needs.{needs}
+use Rattle.table_record.proofs.decode.Statement.{statement}
+use Rattle.table_record.proofs.decode.Tie as tie
+
+pub decode-spec : {M : Type 1} → statement M
+unfolding decoded
+decode-spec =
+    tie.close (tie.spec
+    (λ c. search needs) (λ c. search needs) (λ c κs. search needs) (λ c. search needs) (λ c κs. search needs)
+    (λ c. search needs) (λ c. search needs) (λ c. search needs) (λ c κs. search needs) (λ c κs. search needs)
+    (λ c. cc))

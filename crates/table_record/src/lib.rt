@@ -1,0 +1,218 @@
+// A record: its types, and its octets.
+ghost use mathlib.Core.Path.{_≡_};
+ghost use Prim.Native.Nat.{_+_, _*_, _≤_, _<_};
+ghost use lib.ListN.{length};
+ghost use Rattle.table_record.specs.Record.{roleOf, classOf, stateNumber, stateOf, flagsOf, decoded, octetsOf, sendTid, rcvTid};
+
+// 01, "Events": which end of the transaction a record is.
+pub enum Role {
+    Initiator,
+    Responder,
+}
+
+// 01, "Events": the states of each role, each with its class, so that a state is always one for its role and class.
+pub enum State {
+    Free,
+    IResultWait1,
+    IResultWait2,
+    IResultRespWait,
+    IWaitTimeout,
+    RTidokWait1,
+    RTidokWait2,
+    RInvokeRespWait1,
+    RInvokeRespWait2,
+    RResultWait,
+    RResultRespWait,
+    RWaitTimeout,
+}
+
+// 01, "TIDs": the TID as we write it towards the peer, its top bit set towards the initiator.
+pub struct SendTid(pub u16);
+
+// 01, "TIDs": the TID as the peer writes it towards us.
+pub struct RcvTid(pub u16);
+
+// 01, "Events": how many Invoke, TIDok or Result PDUs were sent after the first.
+pub struct Rcr(pub u8);
+
+// 01, "Events": how many acknowledgement intervals the user let pass.
+pub struct Aec(pub u8);
+
+// A record without its exit information, which stays in the table. The deadline 0 is no timer.
+pub struct Record {
+    pub state: State,
+    pub peer: u8,
+    pub tid: u16,
+    pub user_ack: bool,
+    pub hold_on: bool,
+    pub tidok_sent: bool,
+    pub hold_on_sent: bool,
+    pub rcr: Rcr,
+    pub aec: Aec,
+    pub exit_len: u8,
+    pub deadline: u64,
+    pub len: u32,
+}
+
+pub fn role_of(s: State) -> Role
+    ensures { λ r. ⌜ r ≡ roleOf s ⌝ }
+{
+    match s {
+        State::Free => Role::Initiator,
+        State::IResultWait1 => Role::Initiator,
+        State::IResultWait2 => Role::Initiator,
+        State::IResultRespWait => Role::Initiator,
+        State::IWaitTimeout => Role::Initiator,
+        State::RTidokWait1 => Role::Responder,
+        State::RTidokWait2 => Role::Responder,
+        State::RInvokeRespWait1 => Role::Responder,
+        State::RInvokeRespWait2 => Role::Responder,
+        State::RResultWait => Role::Responder,
+        State::RResultRespWait => Role::Responder,
+        State::RWaitTimeout => Role::Responder,
+    }
+}
+
+pub fn class_of(s: State) -> u8
+    ensures { λ r. ⌜ r ≡ classOf s ⌝ }
+{
+    match s {
+        State::Free => 0,
+        State::IResultWait1 => 1,
+        State::IResultWait2 => 2,
+        State::IResultRespWait => 2,
+        State::IWaitTimeout => 2,
+        State::RTidokWait1 => 1,
+        State::RTidokWait2 => 2,
+        State::RInvokeRespWait1 => 1,
+        State::RInvokeRespWait2 => 2,
+        State::RResultWait => 2,
+        State::RResultRespWait => 2,
+        State::RWaitTimeout => 1,
+    }
+}
+
+pub fn state_number(s: State) -> u8
+    ensures { λ r. ⌜ r ≡ stateNumber s ⌝ }
+{
+    match s {
+        State::Free => 0,
+        State::IResultWait1 => 1,
+        State::IResultWait2 => 2,
+        State::IResultRespWait => 3,
+        State::IWaitTimeout => 4,
+        State::RTidokWait1 => 5,
+        State::RTidokWait2 => 6,
+        State::RInvokeRespWait1 => 7,
+        State::RInvokeRespWait2 => 8,
+        State::RResultWait => 9,
+        State::RResultRespWait => 10,
+        State::RWaitTimeout => 11,
+    }
+}
+
+// The state of a number; a number that is none counts as free.
+fn state_of(n: u8) -> State
+    ensures { λ r. ⌜ r ≡ stateOf n ⌝ }
+{
+    match n {
+        1 => State::IResultWait1,
+        2 => State::IResultWait2,
+        3 => State::IResultRespWait,
+        4 => State::IWaitTimeout,
+        5 => State::RTidokWait1,
+        6 => State::RTidokWait2,
+        7 => State::RInvokeRespWait1,
+        8 => State::RInvokeRespWait2,
+        9 => State::RResultWait,
+        10 => State::RResultRespWait,
+        11 => State::RWaitTimeout,
+        _ => State::Free,
+    }
+}
+
+pub fn send_tid(role: Role, tid: u16) -> SendTid
+    requires { ⌜ tid < 32768 ⌝ }
+    ensures { λ r. ⌜ r .0 ≡ sendTid role tid ⌝ }
+{
+    match role {
+        Role::Initiator => SendTid(tid),
+        Role::Responder => SendTid(tid + 32768),
+    }
+}
+
+pub fn rcv_tid(role: Role, tid: u16) -> RcvTid
+    requires { ⌜ tid < 32768 ⌝ }
+    ensures { λ r. ⌜ r .0 ≡ rcvTid role tid ⌝ }
+{
+    match role {
+        Role::Initiator => RcvTid(tid + 32768),
+        Role::Responder => RcvTid(tid),
+    }
+}
+
+fn flags_of(r: Record) -> u8
+    ensures { λ f. ⌜ f ≡ flagsOf r ⌝ }
+{
+    base_lists::bit(r.user_ack)
+        + 2 * base_lists::bit(r.hold_on)
+        + 4 * base_lists::bit(r.tidok_sent)
+        + 8 * base_lists::bit(r.hold_on_sent)
+}
+
+// The record of 20 octets.
+pub fn decode(w: &[u8]) -> Record
+    requires { ⌜ 20 ≤ length (now w) ⌝ }
+    ensures { λ r. ⌜ r ≡ decoded (now (w .entry)) ⌝ }
+{
+    let f = w[6];
+    let state = state_of(w[0]);
+    Record {
+        state: state,
+        peer: w[1],
+        tid: base_octets::get16(w, 2),
+        user_ack: f % 2 == 1,
+        hold_on: f / 2 % 2 == 1,
+        tidok_sent: f / 4 % 2 == 1,
+        hold_on_sent: f / 8 % 2 == 1,
+        rcr: Rcr(w[4]),
+        aec: Aec(w[5]),
+        exit_len: w[7],
+        deadline: base_octets::get64(w, 8),
+        len: base_octets::get32(w, 16),
+    }
+}
+
+// The 20 octets of a record.
+pub fn encode(r: Record) -> [u8; 20]
+    ensures { λ w. ⌜ w ≡ octetsOf r ⌝ }
+{
+    let state = r.state;
+    let s = state_number(state);
+    let t = base_octets::bytes16(r.tid);
+    let d = base_octets::bytes64(r.deadline);
+    let l = base_octets::bytes32(r.len);
+    let f = flags_of(r);
+    [
+        s,
+        r.peer,
+        t[0],
+        t[1],
+        r.rcr.0,
+        r.aec.0,
+        f,
+        r.exit_len,
+        d[0],
+        d[1],
+        d[2],
+        d[3],
+        d[4],
+        d[5],
+        d[6],
+        d[7],
+        l[0],
+        l[1],
+        l[2],
+        l[3],
+    ]
+}

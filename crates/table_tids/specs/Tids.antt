@@ -1,0 +1,33 @@
+-- The TID test and GenTID (01, "TIDs"), and the interval R[RCR] (01, "What the reader carries").
+use Prim.Native.Nat.{ℕ, _+_, _-_, _%_}
+use mathlib.Core.List.{List, []}
+use lib.ListN.{getD}
+use lib.Dec.{leb, eqb}
+use Rattle.base_lists.specs.Seq.{pick}
+use Rattle.table_record.specs.declared.Rcr.{Rcr}
+use Rattle.table_tids.specs.declared.Test.{Test}
+use Rattle.table_tids.specs.declared.Test.the-variants.{Valid, Verified}
+
+-- 01: "the distance d is (TID − LastTID) taken modulo 32,768"; 32,768 is added so that the difference is never below zero
+unfoldable pub distance : ℕ → ℕ → ℕ
+distance tid last = (tid + 32768 - last % 32768) % 32768
+
+-- 01: "Valid when 1 ≤ d ≤ 16,383; otherwise, or with nothing cached, verified first"; cached is 0 for nothing, else LastTID + 1
+unfoldable pub testOf : ℕ → ℕ → Test
+testOf cached tid =
+    pick (eqb cached 0) Verified
+    (pick (leb 1 (distance tid (cached - 1)))
+    (pick (leb (distance tid (cached - 1)) 16383) Valid Verified)
+    Verified)
+
+-- 01: "GenTID counts modulo 32,768"
+abbrev pub nextTid : ℕ → ℕ
+nextTid tid = (tid + 1) % 32768
+
+-- the row of a class, the first being 0
+abbrev pub rowNumber : ℕ → ℕ
+rowNumber class = pick (eqb class 1) 0 1
+
+-- 01: "R[RCR] is one of two rows of nine intervals, class 1 and class 2"
+unfoldable pub intervalOf : List (List ℕ) → ℕ → Rcr → ℕ
+intervalOf rows class rcr = getD (getD rows (rowNumber class) []) (rcr .0 % 9) 0

@@ -1,9 +1,0 @@
--- `turns::new_record` meets its contract, by its definition. Assumes nothing.
-use mathlib.Core.Path.{refl}
-use Rattle.turns.specs.Turns.{newRecord}
-use Rattle.turns.proofs.new_record.Statement.{statement}
-use Rattle.turns.proofs.new_record.Tie as tie
-
-pub new-record-spec : {M : Type 1} → statement M
-unfolding newRecord
-new-record-spec = tie.close (tie.spec (λ c. refl))
