@@ -1,12 +1,13 @@
 #!/usr/bin/env bash
-# Runs gateway and reader with wrong arguments, wrong files, hostile datagrams, a silent port and signals; the last line counts.
+# Runs the programs with wrong arguments, and gateway and reader with wrong files, hostile datagrams, a silent port and signals;
+# the last line counts.
 set -euo pipefail
 cd "$(dirname "$0")/../.."
 . host/tools.sh
 . scripts/cases.sh
 has python3 || fetch python3
 
-build --package gateway --package reader
+build --workspace
 work="$(mktemp -d)"
 started=()
 
@@ -62,10 +63,30 @@ file() {
 one="$(file one.csv 'sampler,site\n0041,Quay\n')"
 
 echo "help and arguments"
+for program in gateway reader wtpdump compare bench browse; do
+    check "$program --help" says 0 "xample: $program " "$program" --help --bad
+    check "$program -h" says 0 "xample: $program " "$program" -h
+    check "$program with a wrong switch" says 2 "$program: there is no switch --bad; $program --help says" "$program" --bad --help
+done
+for wrong in "wtpdump --port" "compare --calls" "bench --instructions"; do
+    check "$wrong" says 2 "${wrong#* } needs a value; ${wrong% *} --help says how it is used" $wrong
+done
+check "wtpdump with a wrong number" says 2 '--port must be a number from 0 to 65535, not "65536"' wtpdump --port=65536 00
+check "wtpdump without a datagram" says 2 "hex or a file is missing" wtpdump
+check "compare with a wrong number" says 2 '--seed must be a number from 0 to 18446744073709551615, not "-1"' compare --seed -1
+check "compare with a name" says 2 '"7" is one argument too many' compare 7
+check "compare lists its rows" says 0 "TIDOK WAIT" compare --rows
+check "compare makes so many calls" says 1 "5 calls the same, 0 different" compare --calls=5
+check "bench lists its cases" says 0 "receive an Ack:48" bench --list
+check "bench makes one call" $runner "$programs/bench" --one request:1 twin 8
+check "bench without a number of times" says 2 "TIMES is missing" bench --one request:1 twin
+check "bench with a wrong number of times" says 2 "TIMES must be a number" bench --one request:1 twin x
+check "bench with a case that isn't there" says 1 "bench: " bench --one nothing twin 8
+check "browse without its text" says 2 "TEXT is missing" browse 127.0.0.1:9201 http://127.0.0.1:8080
+check "browse with a wrong address" says 1 "0 passed, 1 failed" browse nowhere http://127.0.0.1:8080 text
 for program in gateway reader; do
-    check "$program --help" says 0 "Exit status:" "$program" --help
+    check "$program says its statuses" says 0 "Exit status:" "$program" --help
     check "$program without a file" says 2 "is missing" "$program"
-    check "$program with a wrong switch" says 2 "there is no switch --bad" "$program" --bad
     check "$program with half a switch" says 2 "--seed needs a value" "$program" --seed
     check "$program with a wrong number" says 2 "--loss must be a number from 0 to 100" "$program" --loss 101 "$one"
     check "$program with two files" says 2 "one argument too many" "$program" a b

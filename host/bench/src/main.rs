@@ -2,7 +2,6 @@
 
 #![deny(unsafe_code)]
 
-mod arguments;
 mod call;
 mod cases;
 mod instructions;
@@ -12,37 +11,57 @@ mod report;
 mod side;
 mod start;
 
-use arguments::Asked;
 use cases::Case;
 use instructions::Counts;
+use kit::args::{number, Given, Switches};
+use kit::program::{Program, FAILED};
+use kit::say;
 use side::SIDES;
 use std::process::ExitCode;
 
+const HELP: &str = "\
+Measures what a call of the proved library costs beside the twin, and prints a table in Markdown.
+
+usage: bench [--quick] [--instructions FILE]
+       bench --list
+       bench --one CASE SIDE TIMES
+
+  --quick              fewer and shorter rounds (5 of 1 ms a side instead of 21 of 5 ms)
+  --instructions FILE  counts for the table: a line a case with its name, the library's count and the twin's, divided by tabs
+  --list               prints the names of the cases, a line each
+  --one                makes one call so many times, for a program that counts instructions; SIDE is library, twin or nothing
+  --help               prints this
+
+Both sides' answers are compared in every case before anything is measured; a difference ends the run with status 1.
+host/bench/run.sh counts the instructions and calls this program with them.
+
+example: bench --one 'receive an Ack:48' library 100";
+
 fn main() -> ExitCode {
-    let words: Vec<String> = std::env::args().skip(1).collect();
-    let asked = match arguments::parse(&words) {
-        Ok(asked) => asked,
-        Err(wrong) => return ended(2, &format!("{wrong}; bench --help says what is")),
-    };
-    let done = match asked {
-        Asked::Help => {
-            println!("{}", arguments::HELP);
-            Ok(())
-        }
-        Asked::List => list(),
-        Asked::One { case, side, times } => one(&case, &side, times),
-        Asked::Table { quick, instructions } => table(quick, instructions.as_deref()),
-    };
-    done.map_or_else(|wrong| ended(1, &wrong), |()| ExitCode::SUCCESS)
+    let switches = Switches { valued: &["--instructions"], flags: &["--quick", "--list", "--one"] };
+    Program { name: "bench", help: HELP, switches }.run(|given| {
+        let done = if given.has("--one") { asked_for_one(given)? } else { asked_for_all(given)? };
+        Ok(done.map_or_else(failed, |()| 0))
+    })
 }
 
-fn ended(status: u8, wrong: &str) -> ExitCode {
-    eprintln!("bench: {wrong}");
-    ExitCode::from(status)
+fn failed(wrong: String) -> u8 {
+    say::err(&format!("bench: {wrong}"));
+    FAILED
+}
+
+fn asked_for_one(given: &Given) -> Result<Result<(), String>, String> {
+    let [case, side, times] = given.all_names(["CASE", "SIDE", "TIMES"])?;
+    Ok(one(case, side, number("TIMES", times, 0..=u64::MAX)?))
+}
+
+fn asked_for_all(given: &Given) -> Result<Result<(), String>, String> {
+    let ([], file) = (given.all_names([])?, given.text("--instructions")?);
+    Ok(if given.has("--list") { list() } else { table(given.has("--quick"), file) })
 }
 
 fn list() -> Result<(), String> {
-    cases::keys().iter().for_each(|key| println!("{key}"));
+    say::out(&cases::keys().join("\n"));
     Ok(())
 }
 
@@ -59,9 +78,9 @@ fn table(quick: bool, file: Option<&str>) -> Result<(), String> {
     let cases = cases::all()?;
     cases.iter().try_for_each(Case::agrees)?;
     let plan = if quick { ns::QUICK } else { ns::FULL };
-    println!("{}", report::HEAD);
+    say::out(report::HEAD);
     for case in &cases {
-        println!("{}", report::row(case, counts.get(&case.key()), &ns::measure(case, &plan)));
+        say::out(&report::row(case, counts.get(&case.key()), &ns::measure(case, &plan)));
     }
     Ok(())
 }

@@ -3,7 +3,6 @@
 #![deny(unsafe_code)]
 
 mod aim;
-mod args;
 mod buffers;
 mod calls;
 mod codec;
@@ -23,29 +22,42 @@ mod sizes;
 mod tally;
 mod view;
 
-use args::Task;
-use kit::{with_commas, Random};
+use kit::args::Switches;
+use kit::program::{Program, FAILED};
+use kit::{say, with_commas, Random};
 use pair::{End, Pair};
-use std::io::{stderr, stdout, Write};
 use std::process::ExitCode;
 use twin::Row;
 
-const FAILED: u8 = 1;
-const WRONG_ARGUMENTS: u8 = 2;
+const HELP: &str = "\
+Runs random and hostile calls through the proved library and the twin, and compares all that they answer.
+
+Usage: compare [--seed N] [--calls N] [--rows]
+
+  --seed N    the seed of the random calls; the same seed gives the same calls (default 1)
+  --calls N   how many calls to make (default 1000000)
+  --rows      only list the rows that must be reached, and make no call
+  --help      this text
+
+Progress goes to the standard error. At the end each row and each outcome of the codec is listed with how often it was reached.
+Exit status: 0 all calls the same and every row reached, 1 a difference or a row never reached, 2 wrong arguments.
+
+Example: compare --seed 7 --calls 5000000";
 
 fn main() -> ExitCode {
-    let (told, status) = match args::task(std::env::args().skip(1)) {
-        Ok(Task::Help) => (args::HELP.to_string(), 0),
-        Ok(Task::ListRows) => (Row::ALL.iter().map(|row| format!("{}\n", row.name())).collect(), 0),
-        Ok(Task::Compare { seed, calls }) => compare(seed, calls),
-        Err(wrong) => {
-            let _ = writeln!(stderr(), "compare: {wrong}; see compare --help");
-            (String::new(), WRONG_ARGUMENTS)
-        }
-    };
-    // Whoever reads it may have gone, as head does; the status still tells.
-    let _ = stdout().write_all(told.as_bytes());
-    ExitCode::from(status)
+    let switches = Switches { valued: &["--seed", "--calls"], flags: &["--rows"] };
+    Program { name: "compare", help: HELP, switches }.run(|given| {
+        let [] = given.all_names([])?;
+        let number = |switch, default| given.number(switch, default, 0..=u64::MAX);
+        let (seed, calls) = (number("--seed", 1)?, number("--calls", 1_000_000)?);
+        let (told, status) = if given.has("--rows") { (rows(), 0) } else { compare(seed, calls) };
+        say::out(&told);
+        Ok(status)
+    })
+}
+
+fn rows() -> String {
+    Row::ALL.iter().map(|row| row.name()).collect::<Vec<_>>().join("\n")
 }
 
 /// What is to be told at the end, and the exit status.
@@ -54,11 +66,11 @@ fn compare(seed: u64, calls: u64) -> (String, u8) {
     let end = session::play_all(&mut Random::new(seed), &mut pair);
     let made = with_commas(pair.tally.calls);
     if let End::Different(found) = end {
-        return (format!("{}{made} calls the same, 1 different\n", report::report(seed, &found)), FAILED);
+        return (format!("{}{made} calls the same, 1 different", report::report(seed, &found)), FAILED);
     }
     let missing = pair.tally.never_reached();
     let listed: String = missing.iter().map(|name| format!("never reached: {name}\n")).collect();
     let (reached, all) = (pair.tally.rows_reached(), Row::ALL.len());
-    let told = format!("{}{listed}{made} calls the same, 0 different; {reached} of {all} rows reached\n", pair.tally);
+    let told = format!("{}{listed}{made} calls the same, 0 different; {reached} of {all} rows reached", pair.tally);
     (told, if missing.is_empty() { 0 } else { FAILED })
 }

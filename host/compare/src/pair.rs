@@ -5,8 +5,7 @@ use crate::calls::Call;
 use crate::differences::{self, Difference};
 use crate::sides::{Said, Side};
 use crate::tally::Tally;
-use kit::{with_commas, Random};
-use std::io::{stderr, Write};
+use kit::{say, with_commas, Random};
 use std::panic::{catch_unwind, AssertUnwindSafe};
 
 /// The fewest calls after which progress is told.
@@ -87,8 +86,7 @@ impl Pair {
     fn show_progress(&self) {
         let made = self.tally.calls;
         if made % (self.calls / 10).max(PROGRESS) == 0 {
-            // A closed standard error is no reason to stop.
-            let _ = writeln!(stderr(), "{} of {} calls the same", with_commas(made), with_commas(self.calls));
+            say::err(&format!("{} of {} calls the same", with_commas(made), with_commas(self.calls)));
         }
     }
 }

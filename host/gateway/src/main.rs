@@ -2,13 +2,14 @@
 
 #![deny(unsafe_code)]
 
-use link::args::{Given, Switches};
+use kit::args::{Given, Switches};
+use kit::program::Program;
+use kit::{interrupt, say};
 use link::book::Book;
 use link::common::{self, Common};
 use link::desk::Desk;
-use link::post::{self, Heard, Post};
-use link::step::Step;
-use link::{interrupt, say};
+use link::post::{self, Post};
+use std::process::ExitCode;
 
 const HELP: &str = "\
 Usage: gateway [SWITCHES] RESULTS.csv
@@ -46,63 +47,44 @@ struct Gateway {
     quiet: bool,
 }
 
-fn main() {
-    std::process::exit(match prepare() {
-        Ok(Some(gateway)) => gateway.run(),
-        Ok(None) => 0,
-        Err(what) => say::refuse("gateway", &what),
-    });
+fn main() -> ExitCode {
+    let help = format!("{HELP}\n{}\n{HELP_END}", common::HELP);
+    let switches = Switches { valued: &[&common::VALUED[..], &VALUED].concat(), flags: &["--quiet"] };
+    Program { name: "gateway", help: &help, switches }.run(|given| prepare(given).map(Gateway::run))
 }
 
-/// None where only help was asked for.
-fn prepare() -> Result<Option<Gateway>, String> {
-    let switches = Switches { valued: &[&common::VALUED[..], &VALUED].concat(), flags: &["--quiet", "--help"] };
-    let given = Given::of(std::env::args_os().skip(1), &switches)?;
-    if given.has("--help") {
-        say::out(&format!("{HELP}\n{}\n{HELP_END}", common::HELP));
-        return Ok(None);
-    }
-    let common = Common::of(&given, RECORDS)?;
+fn prepare(given: &Given) -> Result<Gateway, String> {
+    let common = Common::of(given, RECORDS)?;
     let patience = given.number("--patience", 30_000, 1..=86_400_000)?;
-    let address = post::address(given.text("--listen").unwrap_or(common::DEFAULT_ADDRESS))?;
-    let book = Book::read(given.one_name("RESULTS.csv")?)?;
+    let address = post::address(given.text("--listen")?.unwrap_or(common::DEFAULT_ADDRESS))?;
+    let [file] = given.all_names(["RESULTS.csv"])?;
+    let book = Book::read(file)?;
     let samplers = book.len();
     let desk = Desk::new(common.table()?, book, patience);
     let post = Post::bind(address, common.line())?;
     say::out(&format!("gateway: listening on {} with {samplers} samplers", post.local()?));
-    Ok(Some(Gateway { post, desk, quiet: given.has("--quiet") }))
+    Ok(Gateway { post, desk, quiet: given.has("--quiet") })
 }
 
 impl Gateway {
-    fn run(mut self) -> i32 {
+    fn run(mut self) -> u8 {
         interrupt::watch();
         while !interrupt::stopped() {
-            let step = self.desk.tick(self.post.now());
-            self.carry_out(step);
-            match self.post.hear() {
-                Heard::Datagram(packet) => {
-                    let step = self.desk.datagram(self.post.now(), packet.peer, &packet.octets);
-                    self.carry_out(step);
-                }
-                Heard::Nothing => {}
-                Heard::Trouble(line) => self.log(&[line]),
-            }
+            let desk = &mut self.desk;
+            let log = self.post.turn(|now, packet| match packet {
+                None => desk.tick(now),
+                Some(packet) => desk.datagram(now, packet.peer, &packet.octets),
+            });
+            self.log(&log);
         }
         let step = self.desk.interrupt(self.post.now());
-        self.carry_out(step);
-        let log = self.post.empty_line();
-        self.log(&log);
-        say::out(&format!(
-            "gateway: {}\ngateway: {}",
-            self.desk.tally().to_string().replace('\n', "\ngateway: "),
-            self.post.line()
-        ));
-        0
-    }
-
-    fn carry_out(&mut self, step: Step) {
         let log = self.post.carry_out(step);
         self.log(&log);
+        let log = self.post.empty_line();
+        self.log(&log);
+        let tally = self.desk.tally().to_string().replace('\n', "\ngateway: ");
+        say::out(&format!("gateway: {tally}\ngateway: {}", self.post.line()));
+        0
     }
 
     fn log(&self, lines: &[String]) {

@@ -1,10 +1,17 @@
-//! What the programs share: random numbers that a seed fixes, figures for people, and where the fields of a table lie.
+//! What the programs share: their arguments, what they say and how they end, small files, signals, random numbers that a seed
+//! fixes, figures for people, and where the fields of a table lie.
 
-#![forbid(unsafe_code)]
+#![deny(unsafe_code)]
 
+pub mod args;
+pub mod csv;
 mod figures;
+#[allow(unsafe_code)]
+pub mod interrupt;
 pub mod layout;
+pub mod program;
 mod random;
+pub mod say;
 
 pub use figures::with_commas;
 pub use random::Random;

@@ -1,7 +1,7 @@
 //! What the laboratory has for each sampler, from a file: `sampler,answer,detail`.
 
-use crate::csv::{self, wrong, Row};
 use crate::payload::{Concentration, Sampler};
+use kit::csv::{self, wrong, Row};
 use std::collections::HashMap;
 
 const HEADER: [&str; 3] = ["sampler", "answer", "detail"];

@@ -1,7 +1,7 @@
 //! The switches that reader and gateway share.
 
-use crate::args::Given;
 use crate::line::{Faults, Line};
+use kit::args::Given;
 use kit::Random;
 use wtp::{Settings, Table};
 
@@ -70,7 +70,7 @@ impl Common {
 #[cfg(test)]
 mod tests {
     use super::*;
-    use crate::args::Switches;
+    use kit::args::Switches;
 
     fn common(args: &[&str]) -> Result<Common, String> {
         let switches = Switches { valued: &VALUED, flags: &[] };

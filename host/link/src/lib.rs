@@ -6,14 +6,10 @@
 
 #![deny(unsafe_code)]
 
-pub mod args;
 pub mod book;
 pub mod common;
-pub mod csv;
 pub mod desk;
 mod head;
-#[allow(unsafe_code)]
-pub mod interrupt;
 pub mod line;
 mod open;
 pub mod outcome;
@@ -22,6 +18,5 @@ pub mod peers;
 pub mod post;
 pub mod reason;
 pub mod round;
-pub mod say;
 pub mod step;
 pub mod tally;

@@ -98,6 +98,18 @@ impl Post {
         }
     }
 
+    /// Carries out the steps that the timers bring, and those of a datagram, which is waited for, but not for long; gives back
+    /// the lines for the log.
+    pub fn turn(&mut self, mut step: impl FnMut(u64, Option<Packet>) -> Step) -> Vec<String> {
+        let mut log = self.carry_out(step(self.now(), None));
+        match self.hear() {
+            Heard::Datagram(packet) => log.extend(self.carry_out(step(self.now(), Some(packet)))),
+            Heard::Nothing => {}
+            Heard::Trouble(line) => log.push(line),
+        }
+        log
+    }
+
     /// Waits for a datagram, but not for long.
     pub fn hear(&mut self) -> Heard {
         match self.socket.recv_from(&mut self.buffer) {

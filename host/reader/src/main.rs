@@ -6,15 +6,16 @@ mod progress;
 mod report;
 mod samplers;
 
-use link::args::{Given, Switches};
+use kit::args::{Given, Switches};
+use kit::program::Program;
+use kit::{interrupt, say};
 use link::common::{self, Common};
 use link::outcome::{Outcome, Why};
-use link::post::{self, Heard, Post};
+use link::post::{self, Post};
 use link::round::{Manner, Round};
-use link::step::Step;
-use link::{interrupt, say};
 use progress::Progress;
 use samplers::Scanned;
+use std::process::ExitCode;
 
 const HELP: &str = "\
 Usage: reader [SWITCHES] SAMPLERS.csv
@@ -48,42 +49,35 @@ struct Reader {
     progress: Progress,
 }
 
-fn main() {
-    std::process::exit(match prepare() {
-        Ok(Some(reader)) => reader.run(),
-        Ok(None) => 0,
-        Err(what) => say::refuse("reader", &what),
-    });
+fn main() -> ExitCode {
+    let help = format!("{HELP}\n{}\n{HELP_END}", common::HELP);
+    let switches = Switches { valued: &[&common::VALUED[..], &VALUED].concat(), flags: &["--no-user-ack"] };
+    Program { name: "reader", help: &help, switches }.run(|given| prepare(given).map(Reader::run))
 }
 
-/// None where only help was asked for.
-fn prepare() -> Result<Option<Reader>, String> {
-    let switches = Switches { valued: &[&common::VALUED[..], &VALUED].concat(), flags: &["--no-user-ack", "--help"] };
-    let given = Given::of(std::env::args_os().skip(1), &switches)?;
-    if given.has("--help") {
-        say::out(&format!("{HELP}\n{}\n{HELP_END}", common::HELP));
-        return Ok(None);
-    }
-    let common = Common::of(&given, RECORDS)?;
+fn prepare(given: &Given) -> Result<Reader, String> {
+    let common = Common::of(given, RECORDS)?;
     let linger = common.last_repeat();
     let patience = given.number("--patience", linger.saturating_mul(3), 1..=86_400_000)?;
-    let address = post::address(given.text("--gateway").unwrap_or(common::DEFAULT_ADDRESS))?;
-    let samplers = samplers::read(given.one_name("SAMPLERS.csv")?)?;
+    let address = post::address(given.text("--gateway")?.unwrap_or(common::DEFAULT_ADDRESS))?;
+    let [file] = given.all_names(["SAMPLERS.csv"])?;
+    let samplers = samplers::read(file)?;
     let manner = Manner { user_ack: !given.has("--no-user-ack"), patience, linger };
     let asked = samplers.iter().map(|scanned| scanned.sampler.clone()).collect();
     let round = Round::new(common.table()?, asked, manner);
     let post = Post::towards(address, common.line())?;
-    Ok(Some(Reader { post, round, samplers, progress: Progress::new() }))
+    Ok(Reader { post, round, samplers, progress: Progress::new() })
 }
 
 impl Reader {
-    fn run(mut self) -> i32 {
+    fn run(mut self) -> u8 {
         interrupt::watch();
         while !self.round.is_finished() && !interrupt::stopped() {
             self.turn();
         }
         let step = self.round.interrupt(self.post.now());
-        self.carry_out(step);
+        let log = self.post.carry_out(step);
+        self.log(&log);
         let answered = self.print();
         while !self.round.is_over(self.post.now()) && !interrupt::stopped() {
             self.turn();
@@ -92,31 +86,21 @@ impl Reader {
         self.log(&log);
         self.progress.clear();
         say::err(&format!("reader: {}", self.post.line()));
-        i32::from(!answered)
+        u8::from(!answered)
     }
 
-    /// Looks at timers, then waits for a datagram for a short time.
     fn turn(&mut self) {
-        let step = self.round.tick(self.post.now());
-        self.carry_out(step);
-        match self.post.hear() {
-            Heard::Datagram(packet) => {
-                let step = self.round.datagram(self.post.now(), &packet.octets);
-                self.carry_out(step);
-            }
-            Heard::Nothing => {}
-            Heard::Trouble(line) => self.log(&[line]),
-        }
+        let round = &mut self.round;
+        let log = self.post.turn(|now, packet| match packet {
+            None => round.tick(now),
+            Some(packet) => round.datagram(now, &packet.octets),
+        });
+        self.log(&log);
         let (round, all) = (&self.round, self.samplers.len());
         self.progress.show(self.post.now(), || match round.waiting() {
             0 if round.is_finished() => "reader: repeats of the last results are still answered".into(),
             waiting => format!("reader: {} of {all} samplers finished, {waiting} wait for an answer", round.finished()),
         });
-    }
-
-    fn carry_out(&mut self, step: Step) {
-        let log = self.post.carry_out(step);
-        self.log(&log);
     }
 
     fn log(&mut self, lines: &[String]) {

@@ -27,7 +27,7 @@ impl Progress {
             self.replace(&text);
             self.width = text.chars().count();
         } else {
-            link::say::err(&text);
+            kit::say::err(&text);
         }
     }
 

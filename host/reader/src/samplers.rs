@@ -1,6 +1,6 @@
 //! The samplers that were scanned, from a file: `sampler,site`.
 
-use link::csv::{self, wrong, Row};
+use kit::csv::{self, wrong, Row};
 use link::payload::Sampler;
 use std::collections::HashSet;
 

@@ -2,6 +2,7 @@
 
 use crate::input::Source;
 use crate::words::Length;
+use kit::args::{number, Given, Switches};
 use std::ffi::OsString;
 
 pub const HELP: &str = "\
@@ -47,28 +48,18 @@ pub struct Asked {
 
 /// None where help is asked for.
 pub fn read(arguments: impl Iterator<Item = OsString>) -> Result<Option<Asked>, String> {
-    let (mut ports, mut length, mut operands) = (Vec::new(), Length::Short, Vec::new());
-    let mut arguments = arguments;
-    while let Some(argument) = arguments.next() {
-        match argument.to_str() {
-            Some("--help" | "-h") => return Ok(None),
-            Some("--all") => length = Length::All,
-            Some("--port") => ports.push(port(&arguments.next().ok_or("--port needs a number")?.to_string_lossy())?),
-            Some("--") => operands.extend(arguments.by_ref()),
-            Some(switch) if switch.starts_with("--port=") => ports.push(port(switch.trim_start_matches("--port="))?),
-            Some(switch) if switch.starts_with('-') && switch != "-" => return Err(format!("no switch {switch}")),
-            _ => operands.push(argument),
-        }
+    let given = Given::of(arguments, &Switches { valued: &["--port"], flags: &["--all"] })?;
+    if given.has("--help") {
+        return Ok(None);
     }
-    match Source::of(&operands) {
+    let port = |text| number("--port", text, 0..=u16::MAX);
+    let ports = given.texts("--port").into_iter().map(port).collect::<Result<_, _>>()?;
+    let length = if given.has("--all") { Length::All } else { Length::Short };
+    match Source::of(&given.names) {
         Some(source) => Ok(Some(Asked { source, ports, length })),
-        None if operands.is_empty() => Err("hex or a file is missing".to_string()),
+        None if given.names.is_empty() => Err("hex or a file is missing".to_string()),
         None => Err("either hex datagrams or one file; one of these arguments is no hex".to_string()),
     }
-}
-
-fn port(text: &str) -> Result<u16, String> {
-    text.parse().map_err(|_| format!("--port needs a number of 0 to 65535, and not {text:?}"))
 }
 
 #[cfg(test)]

@@ -4,27 +4,27 @@ use crate::arguments::{self, Asked, HELP};
 use crate::datagram::Entry;
 use crate::input::{self, Source};
 use crate::lines::{Dump, Summary};
+use kit::program::{FAILED, WRONG_ARGUMENTS};
+use kit::say;
 use std::ffi::OsString;
 use std::io::{self, ErrorKind, Read, Write};
 
 const GOOD: u8 = 0;
-const FAILED: u8 = 1;
-const WRONG_ARGUMENTS: u8 = 2;
 
 /// Runs wtpdump and gives its exit status.
 pub fn run(arguments: impl Iterator<Item = OsString>, input: &mut dyn Read, out: &mut dyn Write, errors: &mut dyn Write) -> u8 {
     let (status, wrong) = match arguments::read(arguments) {
-        Err(wrong) => (WRONG_ARGUMENTS, format!("{wrong}; wtpdump --help says how it is used")),
+        Err(wrong) => (WRONG_ARGUMENTS, say::refusal("wtpdump", &wrong)),
         Ok(asked) => match answer(asked, input, out) {
             Ok(None) => return GOOD,
-            Ok(Some(wrong)) => (FAILED, wrong),
+            Ok(Some(wrong)) => (FAILED, format!("wtpdump: {wrong}")),
             // A reader that wants no more lines (`wtpdump | head`) is no failure.
             Err(error) if error.kind() == ErrorKind::BrokenPipe => return GOOD,
-            Err(error) => (FAILED, format!("the output can't be written: {error}")),
+            Err(error) => (FAILED, format!("wtpdump: the output can't be written: {error}")),
         },
     };
     // Where even this can't be written, the status still tells.
-    writeln!(errors, "wtpdump: {wrong}").map_or(status, |()| status)
+    writeln!(errors, "{wrong}").map_or(status, |()| status)
 }
 
 /// Writes what was asked for, and says what couldn't be read.

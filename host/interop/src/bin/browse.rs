@@ -3,6 +3,9 @@
 #![deny(unsafe_code)]
 
 use interop::{browse, Wanted};
+use kit::args::Switches;
+use kit::program::{Program, FAILED};
+use kit::say;
 use std::process::ExitCode;
 
 const HELP: &str = "\
@@ -16,33 +19,16 @@ usage: browse GATEWAY BASE TEXT
 Prints every PDU with the seconds since the beginning, > sent and < received, and each case that is checked.
 The last line counts them. Exit status: 0 all passed; 1 one failed; 2 wrong arguments.
 
-example: browse 127.0.0.1:9201 http://127.0.0.1:8080 '12.5 ug/m3'
-";
+example: browse 127.0.0.1:9201 http://127.0.0.1:8080 '12.5 ug/m3'";
 
 fn main() -> ExitCode {
-    let arguments: Vec<String> = std::env::args_os().skip(1).map(|argument| argument.to_string_lossy().into()).collect();
-    match arguments.iter().map(String::as_str).collect::<Vec<_>>()[..] {
-        ["--help" | "-h"] => {
-            print!("{HELP}");
-            ExitCode::SUCCESS
-        }
-        [gateway, base, text] => finish(browse(&Wanted { gateway, base, text })),
-        _ => {
-            eprintln!("browse: three arguments are needed; browse --help says which");
-            ExitCode::from(2)
-        }
-    }
-}
-
-fn finish(count: Result<interop::Count, String>) -> ExitCode {
-    match count {
-        Ok(count) => {
-            println!("{} passed, {} failed", count.passed, count.failed);
-            ExitCode::from(u8::from(count.failed > 0))
-        }
-        Err(why) => {
-            println!("FAILED: {why}\n0 passed, 1 failed");
-            ExitCode::FAILURE
-        }
-    }
+    Program { name: "browse", help: HELP, switches: Switches::default() }.run(|given| {
+        let [gateway, base, text] = given.all_names(["GATEWAY", "BASE", "TEXT"])?;
+        let (told, status) = match browse(&Wanted { gateway, base, text }) {
+            Ok(count) => (format!("{} passed, {} failed", count.passed, count.failed), u8::from(count.failed > 0)),
+            Err(why) => (format!("FAILED: {why}\n0 passed, 1 failed"), FAILED),
+        };
+        say::out(&told);
+        Ok(status)
+    })
 }

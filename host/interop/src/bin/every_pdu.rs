@@ -4,17 +4,18 @@
 #![deny(unsafe_code)]
 
 use interop::{fields, joined_fields, Field, Sent};
+use kit::say;
 use std::process::ExitCode;
 use wtp::codec::join;
 
 fn main() -> ExitCode {
     match lines() {
         Ok(lines) => {
-            println!("{}", lines.join("\n"));
+            say::out(&lines.join("\n"));
             ExitCode::SUCCESS
         }
         Err(why) => {
-            eprintln!("every_pdu: {why}");
+            say::err(&format!("every_pdu: {why}"));
             ExitCode::FAILURE
         }
     }

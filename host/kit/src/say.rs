@@ -11,9 +11,7 @@ pub fn err(text: &str) {
     let _ = writeln!(std::io::stderr(), "{text}");
 }
 
-/// Says what is wrong with the arguments, or with what they name, and gives back the exit status for it.
-pub fn refuse(program: &str, what: &str) -> i32 {
-    err(&format!("{program}: {what}"));
-    err(&format!("Try '{program} --help'."));
-    2
+/// The line about arguments, or about what they name, that can't be used.
+pub fn refusal(program: &str, what: &str) -> String {
+    format!("{program}: {what}; {program} --help says how it is used")
 }
