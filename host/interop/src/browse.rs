@@ -2,6 +2,8 @@
 
 use crate::conversation::{Conversation, Seen};
 use crate::wsp;
+use kit::say;
+use link::round::GATEWAY;
 use std::time::Duration;
 use wtp::{Abort, Name, Role, Shown};
 
@@ -57,7 +59,7 @@ impl Browser<'_> {
     }
 
     fn connect(&mut self) -> Result<u32, String> {
-        println!("Connect");
+        say::out("Connect");
         let (_, shown) = self.ask(&wsp::connect(), SOON)?;
         self.check("Connect got a result with data", result(&shown).is_some());
         self.check("no abort is shown", !aborted(&shown));
@@ -68,7 +70,7 @@ impl Browser<'_> {
     }
 
     fn get_a_page(&mut self) -> Result<(), String> {
-        println!("Get /text");
+        say::out("Get /text");
         let (_, shown) = self.get("/text", SOON)?;
         self.check_text(&shown);
         self.check_acknowledged();
@@ -76,7 +78,7 @@ impl Browser<'_> {
     }
 
     fn get_a_page_that_is_missing(&mut self) -> Result<(), String> {
-        println!("Get /missing");
+        say::out("Get /missing");
         let (_, shown) = self.get("/missing", SOON)?;
         let status = result(&shown).and_then(wsp::reply).map(|reply| reply.status);
         self.check("a page that isn't there is a result with its own status", status == Some(wsp::NOT_FOUND));
@@ -86,7 +88,7 @@ impl Browser<'_> {
     }
 
     fn get_a_slow_page(&mut self) -> Result<(), String> {
-        println!("Get /slow");
+        say::out("Get /slow");
         let (name, shown) = self.get("/slow", LATE)?;
         let pdus = self.talk.take_seen();
         let held_on = pdus.iter().any(|seen| theirs(seen, &[0x18], name) || theirs(seen, &[0x19], name));
@@ -98,7 +100,7 @@ impl Browser<'_> {
     }
 
     fn verify_an_older_tid(&mut self) -> Result<(), String> {
-        println!("Get /text with an older TID");
+        say::out("Get /text with an older TID");
         self.talk.start_anew(OLDER_TID)?;
         let (name, shown) = self.get("/text", SOON)?;
         let pdus = self.talk.take_seen();
@@ -110,7 +112,7 @@ impl Browser<'_> {
     }
 
     fn abort_a_request(&mut self) -> Result<(), String> {
-        println!("Get /slow, aborted");
+        say::out("Get /slow, aborted");
         self.talk.start_anew(2_000)?;
         let name = self.talk.request(2, &wsp::get(&self.url("/slow")))?;
         let before = self.talk.outcome(name, Duration::from_secs(1))?;
@@ -128,8 +130,8 @@ impl Browser<'_> {
     }
 
     fn send_what_matches_nothing(&mut self) -> Result<(), String> {
-        println!("PDUs that match nothing, and one of another version");
-        let nobody = Name { role: Role::Initiator, peer: 0, tid: 4_096 };
+        say::out("PDUs that match nothing, and one of another version");
+        let nobody = Name { role: Role::Initiator, peer: GATEWAY, tid: 4_096 };
         for pdu in [[0x1C, 0x10, 0x00], [0x18, 0x10, 0x00]] {
             self.talk.send_by_hand(&pdu)?;
         }
@@ -147,7 +149,7 @@ impl Browser<'_> {
     }
 
     fn disconnect(&mut self, session: u32) -> Result<(), String> {
-        println!("Disconnect (class 0), then Get /text without a session");
+        say::out("Disconnect (class 0), then Get /text without a session");
         let name = self.talk.request(0, &wsp::disconnect(session))?;
         let shown = self.talk.outcome(name, Duration::from_secs(1))?;
         self.check("class 0 is sent and shows nothing", shown.is_empty());
@@ -185,7 +187,7 @@ impl Browser<'_> {
     }
 
     fn check(&mut self, case: &str, good: bool) {
-        println!("{}: {case}", if good { "ok" } else { "FAILED" });
+        say::out(&format!("{}: {case}", if good { "ok" } else { "FAILED" }));
         let counter = if good { &mut self.count.passed } else { &mut self.count.failed };
         *counter = counter.saturating_add(1);
     }

@@ -1,14 +1,14 @@
 //! The engine as initiator over UDP, with a real clock. Every PDU is printed and kept.
 
-use std::io::ErrorKind;
-use std::net::UdpSocket;
+use kit::say;
+use link::line::{Faults, Line};
+use link::post::{address, Heard, Post};
+use link::round::GATEWAY;
+use link::step::{Packet, Step};
 use std::time::{Duration, Instant};
 use wtp::{codec, Name, Refused, Role, Settings, Shown, Table, Taken};
 use wtpdump::{Dump, Length};
 
-const PEER: u16 = 1;
-/// How long a datagram is waited for before timers are looked at again.
-const PAUSE: Duration = Duration::from_millis(50);
 const SETTINGS: Settings = Settings { rcr_max: 4, aec_max: 4, a: 2_000, w: 2_000, r_class_1: [4_000; 9], r_class_2: [4_000; 9] };
 
 /// A PDU on the air.
@@ -20,21 +20,16 @@ pub struct Seen {
 
 /// One socket and one table. The table may be replaced by a fresh one, as in a reader that was switched off.
 pub struct Conversation {
-    socket: UdpSocket,
+    post: Post,
     table: Table,
-    began: Instant,
     dump: Dump,
     seen: Vec<Seen>,
 }
 
 impl Conversation {
     pub fn with(gateway: &str, first_tid: u16) -> Result<Conversation, String> {
-        let wrong = |error: std::io::Error| format!("{gateway}: {error}");
-        let socket = UdpSocket::bind("127.0.0.1:0").map_err(wrong)?;
-        socket.connect(gateway).map_err(wrong)?;
-        socket.set_read_timeout(Some(PAUSE)).map_err(wrong)?;
-        let (table, dump) = (fresh(first_tid)?, Dump::new(Length::Short));
-        Ok(Conversation { socket, table, began: Instant::now(), dump, seen: Vec::new() })
+        let post = Post::towards(address(gateway)?, Line::new(Faults::default(), 0))?;
+        Ok(Conversation { post, table: fresh(first_tid)?, dump: Dump::new(Length::Short), seen: Vec::new() })
     }
 
     /// Forgets all transactions; the next request has this TID.
@@ -50,33 +45,32 @@ impl Conversation {
 
     /// Requests a transaction and gives its name.
     pub fn request(&mut self, class: u8, data: &[u8]) -> Result<Name, String> {
-        let taken = self.table.request(self.now(), PEER, class, false, data);
+        let taken = self.table.request(self.post.now(), GATEWAY, class, false, data);
         let tid = taken.as_ref().ok().and_then(|taken| taken.tid).unwrap_or(0);
-        self.carry(taken)?;
-        Ok(Name { role: Role::Initiator, peer: PEER, tid })
+        self.carry_out(taken)?;
+        Ok(Name { role: Role::Initiator, peer: GATEWAY, tid })
     }
 
     pub fn answer(&mut self, of: Name) -> Result<(), String> {
-        let taken = self.table.answer(self.now(), of, &[]);
-        self.carry(taken).map(|_| ())
+        let taken = self.table.answer(self.post.now(), of, &[]);
+        self.carry_out(taken)
     }
 
     pub fn abort(&mut self, of: Name, reason: u8) -> Result<(), String> {
-        let taken = self.table.abort(self.now(), of, reason);
-        self.carry(taken).map(|_| ())
+        let taken = self.table.abort(self.post.now(), of, reason);
+        self.carry_out(taken)
     }
 
     /// Sends octets that the engine didn't write.
     pub fn send_by_hand(&mut self, pdu: &[u8]) -> Result<(), String> {
-        self.note(true, pdu);
-        self.socket.send(pdu).map(|_| ()).map_err(|error| format!("can't send: {error}"))
+        self.send(Step { send: vec![Packet { peer: GATEWAY, octets: pdu.to_vec() }], log: Vec::new() })
     }
 
     /// What is shown of a transaction until its result or its abort, or until the time is over.
     pub fn outcome(&mut self, of: Name, limit: Duration) -> Result<Vec<Shown>, String> {
         let (began, mut all) = (Instant::now(), Vec::new());
         while began.elapsed() < limit {
-            all.extend(self.step()?.into_iter().filter(|shown| shown.of() == of));
+            all.extend(self.turn()?.into_iter().filter(|shown| shown.of() == of));
             if all.iter().any(|shown| !matches!(shown, Shown::Confirmation { .. })) {
                 break;
             }
@@ -84,63 +78,77 @@ impl Conversation {
         Ok(all)
     }
 
-    /// Moves at most one datagram, and fires what is due.
-    fn step(&mut self) -> Result<Vec<Shown>, String> {
-        let mut shown = Vec::new();
-        let mut datagram = [0; 2_048];
-        match self.socket.recv(&mut datagram) {
-            Ok(length) => shown.extend(self.receive(datagram.get(..length).unwrap_or_default())?),
-            Err(error) if matches!(error.kind(), ErrorKind::WouldBlock | ErrorKind::TimedOut | ErrorKind::Interrupted) => {}
-            Err(error) => return Err(format!("nothing listens at the gateway's port: {error}")),
+    /// Fires what is due, and moves at most one datagram.
+    fn turn(&mut self) -> Result<Vec<Shown>, String> {
+        let mut step = Step::default();
+        let mut shown = step.fire(&mut self.table, self.post.now());
+        match self.post.hear() {
+            Heard::Datagram(packet) => shown.extend(self.receive(&packet.octets, &mut step)),
+            Heard::Nothing => {}
+            Heard::Trouble(why) => return Err(why),
         }
-        loop {
-            let taken = self.table.timer(self.now());
-            let fired = matches!(&taken, Ok(taken) if taken.fired.is_some());
-            shown.extend(self.carry(taken)?);
-            if !fired {
-                return Ok(shown);
-            }
-        }
+        self.send(step).map(|()| shown)
     }
 
-    fn receive(&mut self, datagram: &[u8]) -> Result<Vec<Shown>, String> {
-        let mut shown = Vec::new();
-        let pdus = codec::separate(datagram).unwrap_or_else(|_| {
-            self.note(false, datagram);
-            Vec::new()
-        });
-        for pdu in pdus {
-            self.note(false, pdu);
-            let taken = self.table.receive(self.now(), PEER, pdu);
-            shown.extend(self.carry(taken)?);
-        }
-        Ok(shown)
+    fn receive(&mut self, datagram: &[u8], step: &mut Step) -> Vec<Shown> {
+        let pdus = codec::separate(datagram);
+        pdus.as_deref().unwrap_or(&[datagram]).iter().for_each(|pdu| self.note(false, pdu));
+        let now = self.post.now();
+        let shown = |pdu| step.take(GATEWAY, self.table.receive(now, GATEWAY, pdu));
+        pdus.unwrap_or_default().into_iter().flat_map(shown).collect()
     }
 
-    /// Sends what an accepted call sends, and gives what it shows.
-    fn carry(&mut self, taken: Result<Taken, Refused>) -> Result<Vec<Shown>, String> {
-        let taken = taken.map_err(|refused| format!("the engine refused a call: {refused}"))?;
-        if let Some(pdu) = taken.sent {
-            self.send_by_hand(&pdu)?;
-        }
-        Ok(taken.shown)
+    /// Sends what an accepted call sends.
+    fn carry_out(&mut self, taken: Result<Taken, Refused>) -> Result<(), String> {
+        let mut step = Step::default();
+        step.take(GATEWAY, taken);
+        self.send(step)
+    }
+
+    /// A call that was refused, or trouble in sending, ends the conversation.
+    fn send(&mut self, step: Step) -> Result<(), String> {
+        step.send.iter().for_each(|packet| self.note(true, &packet.octets));
+        self.post.carry_out(step).into_iter().next().map_or(Ok(()), Err)
     }
 
     /// Prints and keeps a PDU, or a datagram that can't be separated.
     fn note(&mut self, ours: bool, pdu: &[u8]) {
-        let arrow = if ours { '>' } else { '<' };
-        let time = self.began.elapsed().as_secs_f64();
+        let (arrow, time) = (if ours { '>' } else { '<' }, self.post.now() as f64 / 1_000.0);
         for line in self.dump.datagram(pdu) {
-            println!("  {time:8.3} {arrow} {line}");
+            say::out(&format!("  {time:8.3} {arrow} {line}"));
         }
         self.seen.push(Seen { ours, pdu: pdu.to_vec() });
-    }
-
-    fn now(&self) -> u64 {
-        u64::try_from(self.began.elapsed().as_millis()).unwrap_or(u64::MAX)
     }
 }
 
 fn fresh(first_tid: u16) -> Result<Table, String> {
     Table::fresh(4, &SETTINGS, first_tid).map_err(|refused| refused.to_string())
+}
+
+#[cfg(test)]
+mod tests {
+    use super::*;
+    use std::net::UdpSocket;
+
+    #[test]
+    fn what_the_gateway_sends_is_shown_and_every_pdu_is_seen() {
+        let gateway = UdpSocket::bind("127.0.0.1:0").unwrap();
+        let mut talk = Conversation::with(&gateway.local_addr().unwrap().to_string(), 5).unwrap();
+        let name = talk.request(2, b"?").unwrap();
+        let (_, reader) = gateway.recv_from(&mut [0; 9]).unwrap();
+        // A datagram that can't be separated, then a Result.
+        for datagram in [&[0, 9][..], &[0x16, 0x80, 5, b'!']] {
+            gateway.send_to(datagram, reader).unwrap();
+        }
+        let shown = talk.outcome(name, Duration::from_secs(5)).unwrap();
+        assert!(matches!(&shown[..], [Shown::Confirmation { .. }, Shown::Result { data, .. }] if **data == *b"!"), "{shown:?}");
+        talk.answer(name).unwrap();
+        assert_eq!(
+            talk.answer(name).unwrap_err(),
+            "peer 0: the call was refused: the record's state doesn't allow the call (number 9)"
+        );
+        let seen: Vec<_> = talk.take_seen().into_iter().map(|seen| (seen.ours, seen.pdu)).collect();
+        let theirs = [(false, vec![0, 9]), (false, vec![0x16, 0x80, 5, b'!'])];
+        assert_eq!(seen, [&[(true, vec![0x0E, 0, 5, 2, b'?'])], &theirs[..], &[(true, vec![0x18, 0, 5])]].concat());
+    }
 }
