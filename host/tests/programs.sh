@@ -114,6 +114,25 @@ gateway first
 check "a value, and status 0" says 0 "VALUE         NO2 41.2 ug/m3" reader --gateway "$address" --interval 100 "$one"
 check "an abort, and status 1" says 1 "ABORT         by the user: the laboratory doesn't know" reader --gateway "$address" \
     --interval 100 "$(file other.csv 'sampler,site\n9999,Quay\n')"
+# exported: the file has what docs/OUTCOMES.md shows, and as python reads it a value for VALUE alone; nothing else is left there.
+exported() {
+    sed -n '/^```csv$/,/^```$/{/^```/!p}' docs/OUTCOMES.md >"$work/shown.csv"
+    says 1 "1 of 10 samplers: NO ANSWER" reader --gateway "$address" --csv "$work/csv/out.csv" host/examples/samplers.csv &&
+        [ -s "$work/shown.csv" ] && ! grep -vxFf "$work/csv/out.csv" "$work/shown.csv" && [ "$(ls "$work/csv")" = out.csv ] &&
+        python3 -c 'import csv, sys
+columns = "sampler site outcome value detail".split()
+rows = list(csv.DictReader(open(sys.argv[1], newline=""), strict=True))
+outcomes = sorted({row["outcome"] for row in rows})
+assert len(rows) == 10 and outcomes == ["ABORT", "EMPTY RESULT", "NO ANSWER", "VALUE"], outcomes
+for row in rows:
+    is_value = row["outcome"] == "VALUE"
+    assert list(row) == columns and bool(row["value"]) == is_value and bool(row["detail"]) != is_value, row' "$work/csv/out.csv"
+}
+mkdir "$work/csv"
+check "the outcomes in a file" exported
+check "a file that can't be written" says 2 "no/out.csv: can't be written" reader --gateway "$address" --csv no/out.csv "$one"
+check "a file that is a directory" says 2 "csv: isn't the name of a plain file" reader --gateway "$address" --csv "$work/csv" "$one"
+check "the file of the samplers" says 2 "one.csv: is the file of the samplers" reader --gateway "$address" --csv "$work/csv/../one.csv" "$one"
 check "the port is in use" says 2 "$address can't be used" gateway --listen "$address" host/examples/results.csv
 check "an output that nobody reads" bash -c "$runner '$programs/reader' --gateway '$address' --interval 100 '$one' 2>'$work/pipe' | true
     ! grep panicked '$work/pipe'"
@@ -135,18 +154,29 @@ check "the gateway's summary" waits_for "results confirmed" "$work/first.log"
 check "no panic" bash -c "! grep panicked '$work/first.log'"
 check "nobody is there" says 1 "NO ANSWER     none came" reader --gateway "$address" --interval 20 "$one"
 
+# vanished: the file's directory is removed while the reader waits; the outcomes are told all the same.
+vanished() {
+    for _ in $(seq 100); do
+        rm "$work/csv/"*.part && rm -r "$work/csv" && break || sleep 0.1
+    done 2>/dev/null &
+    says 2 "csv/out.csv: can't be written" reader --gateway "$address" --csv "$work/csv/out.csv" --interval 100 "$one" &&
+        grep -q "NO ANSWER     none came" "$work/said"
+}
+check "a file that can't be written any more" vanished
+
 echo "signals"
 # interrupted SIGNAL: a reader that waits for an answer is stopped.
 interrupted() {
     local status=0
-    $runner "$programs/reader" --gateway "$address" --interval 5000 host/examples/samplers.csv >"$work/reader" 2>"$work/$1" &
+    $runner "$programs/reader" --gateway "$address" --interval 5000 --csv "$work/$1.csv" host/examples/samplers.csv >"$work/reader" 2>"$work/$1" &
     local reader=$!
     started+=("$reader")
     waits_for "[1-9] of 10 samplers finished" "$work/$1"
     kill -s "$1" "$reader"
     wait "$reader" || status=$?
     [ "$status" = 1 ] && grep -q "VALUE         NO2 41.2" "$work/reader" && grep -q "NO ANSWER     interrupted" "$work/reader" &&
-        grep -q "10 of 10 samplers have an outcome" "$work/reader"
+        grep -q "10 of 10 samplers have an outcome" "$work/reader" &&
+        [ "$(grep -c "^00[45][0-9],.*,NO ANSWER,,interrupted" "$work/$1.csv")" = "$(grep -c "NO ANSWER     interrupted" "$work/reader")" ]
 }
 gateway second --quiet --interval 5000
 check "Ctrl-C at the reader" interrupted INT

@@ -1,4 +1,5 @@
-//! Small CSV files: a header line, then cells between commas, without quotes. A wrong line is named with its number.
+//! Small CSV files: a header line, then cells between commas. They are read without quotes, and a wrong line is named with its
+//! number; they are written with quotes around the cells that need them.
 
 use std::fs::File;
 use std::io::Read;
@@ -62,6 +63,19 @@ fn row<const N: usize>(file: &str, number: usize, text: &str) -> Result<Row<N>, 
     Ok(Row { number, cells })
 }
 
+/// A line of a file. What another reader could take for more than one cell, or trim, is quoted, and a quote in it doubled.
+pub fn line<const N: usize>(cells: [&str; N]) -> String {
+    let quoted = |cell: &str| {
+        let plain = !cell.contains([',', '"', '\r', '\n']) && cell.trim() == cell;
+        if plain {
+            cell.to_string()
+        } else {
+            format!("\"{}\"", cell.replace('"', "\"\""))
+        }
+    };
+    cells.map(quoted).join(",") + "\n"
+}
+
 #[cfg(test)]
 mod tests {
     use super::*;
@@ -93,6 +107,13 @@ mod tests {
     fn a_missing_header_is_a_wrong_line() {
         assert_eq!(read(b"").unwrap_err(), "f.csv, line 1: the header must be sampler,site");
         assert_eq!(read(b"\n1,a\n").unwrap_err(), "f.csv, line 2: the header must be sampler,site");
+    }
+
+    #[test]
+    fn a_cell_is_quoted_where_it_has_to_be() {
+        assert_eq!(line(["0042", "", "<0.5 µg/m³", "isn't"]), "0042,,<0.5 µg/m³,isn't\n");
+        assert_eq!(line(["a,b", "\"", "a\nb", "a\rb"]), "\"a,b\",\"\"\"\",\"a\nb\",\"a\rb\"\n");
+        assert_eq!(line([" a", "a ", "a b"]), "\" a\",\"a \",a b\n");
     }
 
     #[test]

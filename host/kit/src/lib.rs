@@ -5,6 +5,7 @@
 
 pub mod args;
 pub mod csv;
+mod draft;
 mod figures;
 #[allow(unsafe_code)]
 pub mod interrupt;
@@ -13,5 +14,6 @@ pub mod program;
 mod random;
 pub mod say;
 
+pub use draft::Draft;
 pub use figures::with_commas;
 pub use random::Random;

@@ -2,13 +2,14 @@
 
 #![deny(unsafe_code)]
 
+mod export;
 mod progress;
 mod report;
 mod samplers;
 
 use kit::args::{Given, Switches};
-use kit::program::Program;
-use kit::{interrupt, say};
+use kit::program::{Program, WRONG_ARGUMENTS};
+use kit::{interrupt, say, Draft};
 use link::common::{self, Common};
 use link::outcome::{Outcome, Why};
 use link::post::{self, Post};
@@ -31,22 +32,26 @@ Then comes a summary. Ctrl-C ends the waiting: what has no outcome yet is shown 
 Switches, with their defaults:
   --gateway ADDRESS    the gateway's address and port (127.0.0.1:9201)
   --patience MS        how long a sampler may take, 1 to 86400000 (3 times (retries + 1) intervals)
+  --csv FILE           write the outcomes to FILE too, whole or not at all, in place of an earlier one (no file); its columns
+                       are sampler,site,outcome,value,detail, and the value is filled for VALUE alone
   --no-user-ack        ask for no user acknowledgement: a gateway then holds on for a user who says nothing";
 
 const HELP_END: &str = "  --help               this text
 
-Exit status: 0 each sampler has a value or an empty result, 1 not so, also after Ctrl-C, 2 wrong arguments or a wrong file.
+Exit status: 0 each sampler has a value or an empty result, 1 not so, also after Ctrl-C, 2 wrong arguments or a wrong file,
+also where the CSV file can't be written.
 
 Example: reader --gateway 127.0.0.1:9201 --loss 20 --duplicate 20 --delay 60 host/examples/samplers.csv";
 
 const RECORDS: u64 = 8;
-const VALUED: [&str; 2] = ["--gateway", "--patience"];
+const VALUED: [&str; 3] = ["--gateway", "--patience", "--csv"];
 
 struct Reader {
     post: Post,
     round: Round,
     samplers: Vec<Scanned>,
     progress: Progress,
+    csv: Option<Draft>,
 }
 
 fn main() -> ExitCode {
@@ -66,7 +71,17 @@ fn prepare(given: &Given) -> Result<Reader, String> {
     let asked = samplers.iter().map(|scanned| scanned.sampler.clone()).collect();
     let round = Round::new(common.table()?, asked, manner);
     let post = Post::towards(address, common.line())?;
-    Ok(Reader { post, round, samplers, progress: Progress::new() })
+    let csv = given.text("--csv")?.map(|csv| draft(csv, file)).transpose()?;
+    Ok(Reader { post, round, samplers, progress: Progress::new(), csv })
+}
+
+/// The outcomes must not take the place of the samplers.
+fn draft(csv: &str, samplers: &str) -> Result<Draft, String> {
+    let place = |file| std::fs::canonicalize(file).ok();
+    if place(csv).is_some() && place(csv) == place(samplers) {
+        return Err(format!("{csv}: is the file of the samplers"));
+    }
+    Draft::of(csv)
 }
 
 impl Reader {
@@ -78,7 +93,7 @@ impl Reader {
         let step = self.round.interrupt(self.post.now());
         let log = self.post.carry_out(step);
         self.log(&log);
-        let answered = self.print();
+        let status = self.tell();
         while !self.round.is_over(self.post.now()) && !interrupt::stopped() {
             self.turn();
         }
@@ -86,7 +101,7 @@ impl Reader {
         self.log(&log);
         self.progress.clear();
         say::err(&format!("reader: {}", self.post.line()));
-        u8::from(!answered)
+        status
     }
 
     fn turn(&mut self) {
@@ -110,13 +125,18 @@ impl Reader {
         }
     }
 
-    /// Prints the outcomes, and says whether the laboratory answered each question.
-    fn print(&mut self) -> bool {
+    /// Writes and prints the outcomes; the exit status says whether the laboratory answered each question.
+    fn tell(&mut self) -> u8 {
         self.progress.clear();
         let known = self.round.outcomes().iter();
         let outcomes: Vec<_> = known.map(|outcome| outcome.clone().unwrap_or(Outcome::NoAnswer(Why::Interrupted))).collect();
+        let written = self.csv.take().map_or(Ok(()), |csv| csv.keep(&export::text(&self.samplers, &outcomes)));
         say::out(&report::table(&self.samplers, &outcomes));
         say::out(&format!("\n{}", report::summary(&outcomes)));
-        outcomes.iter().all(Outcome::is_answered)
+        if let Err(why) = written {
+            say::err(&format!("reader: {why}"));
+            return WRONG_ARGUMENTS;
+        }
+        u8::from(!outcomes.iter().all(Outcome::is_answered))
     }
 }
