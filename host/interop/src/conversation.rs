@@ -85,6 +85,7 @@ impl Conversation {
         match self.post.hear() {
             Heard::Datagram(packet) => shown.extend(self.receive(&packet.octets, &mut step)),
             Heard::Nothing => {}
+            Heard::Closed => return Err("nothing listens at the gateway's port".into()),
             Heard::Trouble(why) => return Err(why),
         }
         self.send(step).map(|()| shown)
@@ -150,5 +151,13 @@ mod tests {
         let seen: Vec<_> = talk.take_seen().into_iter().map(|seen| (seen.ours, seen.pdu)).collect();
         let theirs = [(false, vec![0, 9]), (false, vec![0x16, 0x80, 5, b'!'])];
         assert_eq!(seen, [&[(true, vec![0x0E, 0, 5, 2, b'?'])], &theirs[..], &[(true, vec![0x18, 0, 5])]].concat());
+    }
+
+    #[test]
+    fn a_closed_port_ends_the_conversation() {
+        let closed = UdpSocket::bind("127.0.0.1:0").unwrap().local_addr().unwrap();
+        let mut talk = Conversation::with(&closed.to_string(), 5).unwrap();
+        let name = talk.request(2, b"?").unwrap();
+        assert_eq!(talk.outcome(name, Duration::from_secs(5)).unwrap_err(), "nothing listens at the gateway's port");
     }
 }

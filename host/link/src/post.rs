@@ -25,6 +25,8 @@ pub struct Post {
 pub enum Heard {
     Datagram(Packet),
     Nothing,
+    /// An earlier datagram met a closed port.
+    Closed,
     /// A line for the log.
     Trouble(String),
 }
@@ -98,13 +100,13 @@ impl Post {
         }
     }
 
-    /// Carries out the steps that the timers bring, and those of a datagram, which is waited for, but not for long; gives back
-    /// the lines for the log.
+    /// Carries out the step of this time, then that of a datagram, which isn't waited for for long; gives back the log's lines.
     pub fn turn(&mut self, mut step: impl FnMut(u64, Option<Packet>) -> Step) -> Vec<String> {
         let mut log = self.carry_out(step(self.now(), None));
         match self.hear() {
             Heard::Datagram(packet) => log.extend(self.carry_out(step(self.now(), Some(packet)))),
-            Heard::Nothing => {}
+            // A closed port is only no answer.
+            Heard::Nothing | Heard::Closed => {}
             Heard::Trouble(line) => log.push(line),
         }
         log
@@ -116,7 +118,7 @@ impl Post {
             Ok((length, from)) => self.datagram(length, from),
             Err(why) => match why.kind() {
                 ErrorKind::WouldBlock | ErrorKind::TimedOut | ErrorKind::Interrupted => Heard::Nothing,
-                ErrorKind::ConnectionRefused => Heard::Nothing,
+                ErrorKind::ConnectionRefused => Heard::Closed,
                 _ => {
                     std::thread::sleep(WAIT);
                     Heard::Trouble(format!("nothing could be received: {why}"))

@@ -22,7 +22,7 @@ fn heard(post: &mut Post) -> Vec<u8> {
     for _ in 0..1_000 {
         match post.hear() {
             Heard::Datagram(packet) => return packet.octets,
-            Heard::Nothing => {}
+            Heard::Nothing | Heard::Closed => {}
             Heard::Trouble(line) => panic!("{line}"),
         }
     }
@@ -40,16 +40,15 @@ fn a_round_over_loopback() {
     let post = Post::towards(gateway.0.local().unwrap(), line()).unwrap();
     let mut reader = (post, Round::new(table(4), samplers, MANNER));
     while !reader.1.is_finished() {
-        let step = reader.1.tick(reader.0.now());
-        assert!(reader.0.carry_out(step).is_empty());
-        if let Heard::Datagram(packet) = gateway.0.hear() {
-            let step = gateway.1.datagram(gateway.0.now(), packet.peer, &packet.octets);
-            gateway.0.carry_out(step);
-        }
-        if let Heard::Datagram(packet) = reader.0.hear() {
-            let step = reader.1.datagram(reader.0.now(), &packet.octets);
-            assert!(reader.0.carry_out(step).is_empty());
-        }
+        let log = reader.0.turn(|now, packet| match packet {
+            None => reader.1.tick(now),
+            Some(packet) => reader.1.datagram(now, &packet.octets),
+        });
+        assert!(log.is_empty(), "{log:?}");
+        gateway.0.turn(|now, packet| match packet {
+            None => gateway.1.tick(now),
+            Some(packet) => gateway.1.datagram(now, packet.peer, &packet.octets),
+        });
     }
     let kinds: Vec<_> = reader.1.outcomes().iter().flatten().map(|outcome| outcome.kind()).collect();
     assert_eq!(kinds, [Kind::Value, Kind::EmptyResult, Kind::Abort, Kind::Abort]);
@@ -71,10 +70,15 @@ fn a_closed_port_is_only_no_answer() {
     let mut post = Post::towards(closed, line()).unwrap();
     let manner = Manner { patience: 150, ..MANNER };
     let mut round = Round::new(table(1), vec![sampler(0)], manner);
+    let step = round.tick(post.now());
+    assert!(post.carry_out(step).is_empty());
+    assert_eq!(post.hear(), Heard::Closed);
     while !round.is_finished() {
-        let step = round.tick(post.now());
-        assert!(post.carry_out(step).is_empty());
-        assert_eq!(post.hear(), Heard::Nothing);
+        let log = post.turn(|now, packet| {
+            assert_eq!(packet, None);
+            round.tick(now)
+        });
+        assert!(log.is_empty(), "{log:?}");
     }
     assert!(round.outcomes().iter().flatten().all(|outcome| outcome.kind() == Kind::NoAnswer));
 }
