@@ -40,24 +40,32 @@ example: bench --one 'receive an Ack:48' library 100";
 fn main() -> ExitCode {
     let switches = Switches { valued: &["--instructions"], flags: &["--quick", "--list", "--one"] };
     Program { name: "bench", help: HELP, switches }.run(|given| {
-        let done = if given.has("--one") { asked_for_one(given)? } else { asked_for_all(given)? };
-        Ok(done.map_or_else(failed, |()| 0))
+        if given.has("--one") {
+            asked_for_one(given)
+        } else {
+            asked_for_all(given)
+        }
     })
 }
 
-fn failed(wrong: String) -> u8 {
-    say::err(&format!("bench: {wrong}"));
-    FAILED
-}
-
-fn asked_for_one(given: &Given) -> Result<Result<(), String>, String> {
+fn asked_for_one(given: &Given) -> Result<u8, String> {
     let [case, side, times] = given.all_names(["CASE", "SIDE", "TIMES"])?;
-    Ok(one(case, side, number("TIMES", times, 0..=u64::MAX)?))
+    let times = number("TIMES", times, 0..=u64::MAX)?;
+    Ok(status(one(case, side, times)))
 }
 
-fn asked_for_all(given: &Given) -> Result<Result<(), String>, String> {
+fn asked_for_all(given: &Given) -> Result<u8, String> {
     let ([], file) = (given.all_names([])?, given.text("--instructions")?);
-    Ok(if given.has("--list") { list() } else { table(given.has("--quick"), file) })
+    Ok(status(if given.has("--list") { list() } else { table(given.has("--quick"), file) }))
+}
+
+/// The exit status; what went wrong is said.
+fn status(done: Result<(), String>) -> u8 {
+    let failed = |wrong| {
+        say::err(&format!("bench: {wrong}"));
+        FAILED
+    };
+    done.map_or_else(failed, |()| 0)
 }
 
 fn list() -> Result<(), String> {
