@@ -1,5 +1,5 @@
 #!/usr/bin/env bash
-# Tests what the programs of cases are expected to print, crates.txt, the Rust code over the proved library, the programs from outside, and the samples
+# Tests what cases are expected to give, crates.txt, the Rust code over the proved library, the programs from outside, and the samples
 # of docs/OUTCOMES.md; the last line counts the cases.
 set -euo pipefail
 cd "$(dirname "$0")/.."

@@ -1,5 +1,5 @@
 #!/usr/bin/env python3
-"""Writes the codec cases and what they must give: crates/case_codec/stdin and stdout.
+"""Writes the codec cases and what they must give: tests/codec_cases/commands.txt and expected.txt.
 
 An independent reading of document 01 ("Bytes on the air", bench cases) and of the C interface's words: nothing
 here is taken from the definitions or the code, so the program's output is compared with a second opinion.
@@ -299,11 +299,11 @@ def datagrams():
 reading()
 writing()
 datagrams()
-crate = pathlib.Path(__file__).resolve().parent.parent / "crates" / "case_codec"
-files = {"stdin": "\n".join(lines) + "\n", "stdout": "\n".join(expected) + "\n"}
+folder = pathlib.Path(__file__).resolve().parent / "codec_cases"
+files = {"commands.txt": "\n".join(lines) + "\n", "expected.txt": "\n".join(expected) + "\n"}
 if "--check" in sys.argv[1:]:
-    wrong = [name for name, text in files.items() if (crate / name).read_text() != text]
+    wrong = [name for name, text in files.items() if (folder / name).read_text() != text]
     sys.exit("codec_cases: " + ", ".join(wrong) + " differ from document 01 as read here" if wrong else 0)
 for name, text in files.items():
-    (crate / name).write_text(text)
+    (folder / name).write_text(text)
 print("%d cases" % sum(not x.startswith("#") for x in lines))

@@ -1,5 +1,5 @@
 #!/usr/bin/env python3
-"""Writes what the damage program must print: crates/case_damage/stdout.
+"""Writes how many damaged tables must be refused: tests/damage/expected.txt.
 
 An independent reading of document 01's "well formed" over the layout of docs/TABLE.md; nothing here is taken from the definitions or the code.
 usage: tests/damage.py [--check]
@@ -70,8 +70,8 @@ text = ["a fresh table of two records"] + damaged(table)
 table[HEADER], table[HEADER + RECORD], table[HEADER + RECORD + 1] = 2, 2, 1
 text += ["the same with both records live"] + damaged(table)
 text = "\n".join(text) + "\n"
-path = pathlib.Path(__file__).resolve().parent.parent / "crates" / "case_damage" / "stdout"
+path = pathlib.Path(__file__).resolve().parent / "damage" / "expected.txt"
 if "--check" in sys.argv[1:]:
-    sys.exit(0 if path.read_text() == text else "damage: stdout differs from document 01 as read here")
+    sys.exit(0 if path.read_text() == text else "damage: expected.txt differs from document 01 as read here")
 path.write_text(text)
 print("%d lines" % text.count("\n"))

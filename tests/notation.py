@@ -1,4 +1,4 @@
-"""How the programs of cases print octets (crates/case_lines, host/scenarios)."""
+"""How host/scenarios prints octets."""
 
 
 def text_of(octets):

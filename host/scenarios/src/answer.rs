@@ -2,7 +2,7 @@
 
 use crate::call::Event;
 use crate::desk::{Buffers, UNTOUCHED, UNTOUCHED_WORD};
-use crate::octets::text;
+use crate::octets::{part, text};
 use std::ops::Range;
 use wtp::ffi::ANSWER;
 
@@ -122,9 +122,4 @@ impl Answer<'_> {
         let touched = (ANSWER..self.buffers.answer.len()).filter(|place| self.word(*place) != UNTOUCHED_WORD);
         touched.map(|place| format!("; changed word {place}")).collect()
     }
-}
-
-fn part(octets: &[u8], start: u64, length: u64) -> Option<&[u8]> {
-    let start = usize::try_from(start).ok()?;
-    octets.get(start..start.checked_add(usize::try_from(length).ok()?)?)
 }

@@ -1,6 +1,7 @@
-//! A line of a scenario as a command.
+//! A line as a command.
 
 use crate::call::{Call, Event};
+use crate::codec::Case;
 use crate::desk::Sizes;
 use crate::words::Words;
 
@@ -29,6 +30,7 @@ pub enum Command {
         end: usize,
     },
     Call(Call),
+    Codec(Case),
 }
 
 /// The command of a line, or what is wrong with it.
@@ -37,24 +39,37 @@ pub fn command(line: &str) -> Result<Command, String> {
     let command = match words.next() {
         None => Command::Nothing,
         Some(title) if title.starts_with('#') => return Ok(Command::Nothing),
-        Some("set") => Command::Set(settings(&mut words)?),
+        Some("set") => Command::Set(values(&mut words)?),
         Some("lend") => Command::Lend(sizes(&mut words)?),
         Some("bytes") => Command::Bytes { records: words.number("RECORDS")? },
         Some("fresh") => fresh(&mut words)?,
         Some("put") => Command::Put { end: words.end()?, at: words.number("AT")?, value: words.number("VALUE")? },
         Some("look") => Command::Look { end: words.end()? },
+        Some("r") => Command::Codec(Case::Read(words.last_octets()?)),
+        Some("w") => Command::Codec(Case::Write { words: values(&mut words)?, octets: words.octets()? }),
+        Some("s") => Command::Codec(Case::Separate(words.last_octets()?)),
+        Some("j") => Command::Codec(Case::Join { lengths: lengths(&mut words)?, octets: words.octets()? }),
         Some(name) => Command::Call(call(name, &mut words)?),
     };
     words.finish()?;
     Ok(command)
 }
 
-fn settings(words: &mut Words) -> Result<Vec<(usize, u64)>, String> {
+/// Words by their places.
+fn values(words: &mut Words) -> Result<Vec<(usize, u64)>, String> {
     let mut read = Vec::new();
-    while let Some(word) = words.next() {
+    while let Some(word) = words.before_octets() {
         let (place, value) = word.split_once('=').unwrap_or_default();
-        let setting = place.parse().ok().zip(value.parse().ok());
-        read.push(setting.ok_or_else(|| format!("N=V can't be {word:?}"))?);
+        let placed = place.parse().ok().zip(value.parse().ok());
+        read.push(placed.ok_or_else(|| format!("N=V can't be {word:?}"))?);
+    }
+    Ok(read)
+}
+
+fn lengths(words: &mut Words) -> Result<Vec<u64>, String> {
+    let mut read = Vec::new();
+    while let Some(word) = words.before_octets() {
+        read.push(word.parse().map_err(|_| format!("N can't be {word:?}"))?);
     }
     Ok(read)
 }

@@ -1,4 +1,4 @@
-//! Octets as a scenario writes them: two digits each; four or more equal ones as one, a star, their number and a comma.
+//! Octets as a line writes them: two digits each; four or more equal ones as one, a star, their number and a comma.
 
 const SHORTEST_RUN: usize = 4;
 
@@ -42,6 +42,12 @@ fn first_run(text: &str) -> Option<(u8, usize, &str)> {
             Some((octet, usize::from(times.parse::<u16>().ok()?), after))
         }
     }
+}
+
+/// The octets of a place; None where it runs past the end.
+pub fn part(octets: &[u8], start: u64, length: u64) -> Option<&[u8]> {
+    let start = usize::try_from(start).ok()?;
+    octets.get(start..start.checked_add(usize::try_from(length).ok()?)?)
 }
 
 #[cfg(test)]

@@ -1,6 +1,7 @@
-//! Engines with a planted error, each of which must be told; and lines that are no command.
+//! Engines and codecs with a planted error, each of which must be told; and lines that are no command.
 
 use crate::call::{Engine, Event};
+use crate::codec::{Case, Codec, LIBRARY};
 use crate::player::{play, play_on};
 use kit::layout::STATE;
 use wtp::ffi::{Lent, ANSWER};
@@ -79,6 +80,58 @@ fn data_that_lie_nowhere_are_told() {
 }
 
 #[test]
+fn a_codec_that_changes_something_where_it_refuses_is_told() {
+    let read = |_: &[u8], fields: &mut [u64]| {
+        fields[87] = 0;
+        102
+    };
+    let join = |_: &[u8], _: &[u64], out: &mut [u8], _: &mut [u64]| {
+        out[0] = 0;
+        11
+    };
+    let codec = Codec { read, join, ..LIBRARY };
+    assert_eq!(codec.told(&Case::Read(vec![0])).unwrap(), ": D2; A REFUSED CALL CHANGED SOMETHING");
+    let case = Case::Join { lengths: vec![], octets: vec![] };
+    assert_eq!(codec.told(&case).unwrap(), ": refused 11; A REFUSED CALL CHANGED SOMETHING");
+}
+
+#[test]
+fn output_past_the_octets_and_odd_words_are_told() {
+    let write = |_: &[u64], _: &[u8], out: &mut [u8], answer: &mut [u64]| {
+        out[..4].copy_from_slice(&[0x18, 0x80, 5, 0]);
+        answer.fill(0);
+        answer[0] = 3;
+        answer[31] = 9;
+        0
+    };
+    let join = |_: &[u8], _: &[u64], _: &mut [u8], answer: &mut [u64]| {
+        answer.fill(0);
+        answer[0] = 1501;
+        0
+    };
+    let codec = Codec { write, join, ..LIBRARY };
+    let case = Case::Write { words: vec![(0, 3), (4, 5)], octets: vec![] };
+    assert_eq!(codec.told(&case).unwrap(), ": ok 188005; word 31 is 9; OUTPUT CHANGED PAST THE OCTETS");
+    let case = Case::Join { lengths: vec![1], octets: vec![7] };
+    assert_eq!(codec.told(&case).unwrap(), ": ok; too many: 1501");
+}
+
+#[test]
+fn words_that_reading_leaves_and_parts_that_are_nowhere_are_told() {
+    let read = |_: &[u8], fields: &mut [u64]| {
+        fields[..87].fill(0);
+        0
+    };
+    let separate = |_: &[u8], k: u64, part: &mut [u64]| {
+        part.copy_from_slice(&[k, 2, 2]);
+        0
+    };
+    let codec = Codec { read, separate, ..LIBRARY };
+    assert_eq!(codec.told(&Case::Read(vec![0])).unwrap(), ": ok 87=77 ->: D2");
+    assert_eq!(codec.told(&Case::Separate(vec![7, 7])).unwrap(), ": ok 0707: ok PART 1 ISN'T THERE");
+}
+
+#[test]
 fn a_line_that_is_no_command_is_named() {
     for (line, wrong) in [
         ("reg 0 10", "there is no command \"reg\""),
@@ -90,9 +143,16 @@ fn a_line_that_is_no_command_is_named() {
         ("abo 0 10 0 5 7 256", "REASON can't be \"256\""),
         ("set 40=1", "there is no setting 40"),
         ("set 1", "N=V can't be \"1\""),
+        ("set 1=1 /", "\"/\" is too much"),
         ("lend 1 2", "OUT is missing"),
         ("put 0 8464 0", "there is no octet 8464"),
         ("look 1", "there is no table of 0 records"),
+        ("r /18", "OCTETS can't be \"/18\""),
+        ("s 00 03", "\"03\" is too much"),
+        ("w 0=3 18", "N=V can't be \"18\""),
+        ("w 0=3", "/OCTETS is missing"),
+        ("w 88=0 /", "there is no word 88"),
+        ("j 3 x /188005", "N can't be \"x\""),
     ] {
         let mut told = String::new();
         assert_eq!(play(&format!("{START}{line}"), &mut told), Err(format!("line 3: {wrong}")), "{line}");

@@ -1,11 +1,13 @@
-//! Plays a text of scenarios, line by line.
+//! Plays a text of commands, line by line.
 
 use crate::answer::Answer;
 use crate::call::{library, Call, Engine};
 use crate::changes::changes;
+use crate::codec;
 use crate::command::{command, Command};
 use crate::desk::Desk;
 use crate::look::look;
+use crate::refused::refused;
 use wtp::ffi;
 
 /// Tells each line and what it gives, up to the first that is no command: that one is the error.
@@ -39,6 +41,7 @@ impl Player {
             Command::Put { end, at, value } => return self.put(end, at, value),
             Command::Look { end } => return self.look(end),
             Command::Call(call) => return Ok(self.call(call)),
+            Command::Codec(case) => return codec::LIBRARY.told(&case),
         }
         Ok(String::new())
     }
@@ -88,9 +91,4 @@ impl Player {
         }
         told
     }
-}
-
-/// A refused call changes nothing.
-fn refused(number: u64, changed: bool) -> String {
-    format!(": refused {number}{}", if changed { "; A REFUSED CALL CHANGED SOMETHING" } else { "" })
 }

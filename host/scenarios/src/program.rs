@@ -8,7 +8,7 @@ const GOOD: u8 = 0;
 const WRONG: u8 = 2;
 
 const HELP: &str = "\
-Plays scenarios, a command a line, through the proved library, for two ends with a table each.
+Plays scenarios and codec cases, a command a line, through the proved library, for two ends with a table each.
 
 Usage: scenarios FILE
 
@@ -25,6 +25,10 @@ Usage: scenarios FILE
   rcv END TIME PEER /PDU              a PDU received
   get END TIME PEER                   the PDU that the other end sent last, received
   tim END TIME                        the timer call
+  r PDU                               reads it; what was read is then written
+  w N=V .. /OCTETS                    writes the PDU of these words, whose parts lie in the octets
+  s DATAGRAM                          separates it, and reads each part
+  j N .. /OCTETS                      joins PDUs of these lengths
   # ..                                a title
 
 Octets are pairs of hex digits; 41*255, is an octet 255 times. Each line is printed with what it gives. In braces stand the

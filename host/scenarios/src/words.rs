@@ -15,6 +15,14 @@ impl<'a> Words<'a> {
         self.0.next()
     }
 
+    /// The next word, unless it is octets after a slash.
+    pub fn before_octets(&mut self) -> Option<&'a str> {
+        let mut ahead = self.0.clone();
+        let word = ahead.next().filter(|word| !word.starts_with('/'))?;
+        self.0 = ahead;
+        Some(word)
+    }
+
     pub fn is_empty(&self) -> bool {
         self.0.clone().next().is_none()
     }
@@ -44,6 +52,12 @@ impl<'a> Words<'a> {
     pub fn octets(&mut self) -> Result<Vec<u8>, String> {
         let word = self.named("/OCTETS")?;
         word.strip_prefix('/').and_then(octets::octets).ok_or_else(|| format!("/OCTETS can't be {word:?}"))
+    }
+
+    /// Octets without a slash; none where the line ends.
+    pub fn last_octets(&mut self) -> Result<Vec<u8>, String> {
+        let word = self.next().unwrap_or_default();
+        octets::octets(word).ok_or_else(|| format!("OCTETS can't be {word:?}"))
     }
 
     /// Nothing may be left.

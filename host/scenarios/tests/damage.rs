@@ -1,0 +1,83 @@
+//! A table damaged one octet at a time, every octet with each of its other values: how many the library refuses, for each field.
+
+mod compared;
+
+use compared::compare;
+use kit::layout::{self, table_bytes, CELL, HEADER, LAST_TIME, RECORD};
+use wtp::ffi::{self, Lent};
+
+const RECORDS: usize = 2;
+
+/// Where the fields of docs/TABLE.md start, some of them taken together.
+const OF_HEADER: [usize; 7] = [0, 8, 10, 12, 20, layout::SPARE, layout::CACHE];
+const OF_RECORD: [usize; 9] = [0, 1, 2, 4, 6, 8, 16, layout::RECORD_SPARE, layout::EXIT];
+
+/// What a timer call gives.
+type Timer = fn(Lent, u64) -> u64;
+
+fn fields() -> Vec<usize> {
+    let of_records = (0..RECORDS).flat_map(|place| OF_RECORD.iter().map(move |at| HEADER + RECORD * place + at));
+    OF_HEADER.into_iter().chain(of_records).chain([table_bytes(RECORDS)]).collect()
+}
+
+/// RCR_MAX 4, AEC_MAX 5, A 1,000, W 2,000, R 3,000 of class 1 and 4,000 of class 2.
+fn fresh() -> Vec<u8> {
+    let mut settings = [&[4, 5, 1000, 2000][..], &[3000; 9], &[4000; 9]].concat();
+    settings.resize(ffi::SETTINGS, 0);
+    let mut table = vec![7; table_bytes(RECORDS)];
+    assert_eq!(ffi::fresh(&mut table, &settings, 7), 0);
+    table
+}
+
+/// Two initiator records in RESULT WAIT of class 2, with TID 0, for the peers 0 and 1.
+fn with_two_live(mut table: Vec<u8>) -> Vec<u8> {
+    (0..RECORDS).for_each(|place| layout::STATE.of_record(place).set(&mut table, 2));
+    layout::PEER.of_record(1).set(&mut table, 1);
+    table
+}
+
+/// How many tables that differ from this one in this octet aren't well formed. The last time that there is lies below no
+/// clock in range, so that the others are accepted.
+fn refused(timer: Timer, table: &[u8], at: usize) -> usize {
+    let (mut store, mut out, mut answer) = ([0; CELL * RECORDS], [0; ffi::SENDING], [0; ffi::ANSWER]);
+    // An accepted call changes its table.
+    let mut damaged = table.to_vec();
+    let numbers = (0..=255).map(|value| {
+        damaged.copy_from_slice(table);
+        damaged[at] = value;
+        timer(Lent { table: &mut damaged, store: &mut store, out: &mut out, answer: &mut answer }, LAST_TIME)
+    });
+    numbers.filter(|number| *number == 1).count()
+}
+
+fn told(timer: Timer, table: &[u8]) -> String {
+    let fields = fields();
+    let each = fields.iter().zip(&fields[1..]);
+    each.map(|(from, to)| {
+        let refused: usize = (*from..*to).map(|at| refused(timer, table, at)).sum();
+        format!("octets {from} to {to}: {refused} changes refused\n")
+    })
+    .collect()
+}
+
+fn both_told(timer: Timer) -> String {
+    let table = fresh();
+    let free = told(timer, &table);
+    let live = told(timer, &with_two_live(table));
+    format!("a fresh table of two records\n{free}the same with both records live\n{live}")
+}
+
+#[test]
+fn damage_that_is_let_through_is_not_counted() {
+    let blind = |lent: Lent, now| {
+        lent.table[layout::SPARE] = 0;
+        ffi::timer(lent, now)
+    };
+    let counted: Vec<usize> = [ffi::timer as Timer, blind].iter().map(|timer| refused(*timer, &fresh(), layout::SPARE)).collect();
+    assert_eq!(counted, [255, 0]);
+}
+
+#[test]
+fn the_library_refuses_the_damage_that_document_01_says() {
+    compare(&both_told(ffi::timer), "damage/expected.txt");
+}
