@@ -1,7 +1,7 @@
 #!/usr/bin/env python3
-"""Writes what the engine's bench cases without a star must give: crates/case_bench/stdout.
+"""Writes what the bench cases without a star must give: crates/bench_cases/stdout.
 
-What they must give is what the engine of tests/engine.py gives, an independent reading of document 01; beside each line stands what
+What they must give is what the engine of tests/engine.py gives, an independent reading of document 01; beside each case stands what
 document 01 says of it.
 usage: tests/bench_cases.py [--check]
 """
@@ -11,6 +11,11 @@ import sys
 from engine import ends, make_fresh, request, settings, timer
 
 RECORDS = 48
+
+
+def before_pdu(length):
+    """The octets of a length in a datagram: 7 bits, or 15 after a bit that is set."""
+    return "%02x" % length if length < 128 else "%04x" % (32768 + length)
 
 
 def requested(octets):
@@ -26,8 +31,11 @@ longest = [requested(1024) for _ in range(RECORDS + 1)]
 assert longest == [0] * RECORDS + [7], "data 1,024 accepted; a 48-record table takes no 49th"
 fired = timer(ends[0], 1000)[1]
 assert fired.fired and not fired.sent, "RCR_MAX 0 sends one Invoke"
-text = "data 1,025: %d\ndata 1,024, 49 times: %s\n" % (too_long, "".join(map(str, longest)))
-text += "RCR_MAX 0, interval over: fired %d, sent %d\n" % (fired.fired is not None, len(fired.sent))
+lengths = [before_pdu(127), before_pdu(128)]
+assert lengths == ["7f", "8080"], "length 127 is 7F, 128 is 80 80"
+text = "lengths 127, 128; data 1,025, then 49 times 1,024; RCR_MAX 0, interval over: fired, sent\n"
+for given in lengths + ["".join(map(str, [too_long] + longest)), int(fired.fired is not None), len(fired.sent)]:
+    text += "%s\n" % given
 path = pathlib.Path(__file__).resolve().parent.parent / "crates" / "case_bench" / "stdout"
 if "--check" in sys.argv[1:]:
     sys.exit(0 if path.read_text() == text else "bench_cases: stdout differs from document 01 as read here")
