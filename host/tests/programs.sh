@@ -63,7 +63,7 @@ file() {
 one="$(file one.csv 'sampler,site\n0041,Quay\n')"
 
 echo "help and arguments"
-for program in gateway reader wtpdump compare bench browse; do
+for program in gateway reader wtpdump compare scenarios bench browse; do
     check "$program --help" says 0 "xample: $program " "$program" --help --bad
     check "$program -h" says 0 "xample: $program " "$program" -h
     check "$program with a wrong switch" says 2 "$program: there is no switch --bad; $program --help says" "$program" --bad --help
@@ -76,6 +76,9 @@ check "wtpdump without a datagram" says 2 "hex or a file is missing" wtpdump
 check "compare with a wrong number" says 2 '--seed must be a number from 0 to 18446744073709551615, not "-1"' compare --seed -1
 check "compare with a name" says 2 '"7" is one argument too many' compare 7
 check "compare lists its rows" says 0 "TIDOK WAIT" compare --rows
+check "scenarios without a file" says 2 "a file of scenarios is missing" scenarios
+check "scenarios with a file that isn't there" says 2 "no-such.txt can't be read" scenarios no-such.txt
+check "scenarios names a line that is no command" says 2 "line 2: " scenarios "$(file wrong.txt 'set\nno command\n')"
 check "compare makes so many calls" says 1 "5 calls the same, 0 different" compare --calls=5
 check "bench lists its cases" says 0 "receive an Ack:48" bench --list
 check "bench makes one call" $runner "$programs/bench" --one request:1 twin 8

@@ -17,9 +17,7 @@ mod octets;
 #[cfg(test)]
 mod planted;
 mod player;
-mod program;
 mod refused;
 mod words;
 
 pub use player::play;
-pub use program::run;

@@ -2,11 +2,50 @@
 
 #![forbid(unsafe_code)]
 
-use std::ffi::OsString;
-use std::io;
+use kit::args::Switches;
+use kit::program::Program;
+use kit::say;
+use scenarios::play;
 use std::process::ExitCode;
 
+const HELP: &str = "\
+Plays scenarios and codec cases, a command a line, through the proved library, for two ends with a table each.
+
+Usage: scenarios FILE
+
+  set N=V ..                          the settings of the next fresh table: the usual ones, but for these words
+  lend TABLE STORE OUT ANSWER WORDS   how much is lent from now on; without numbers, what is right
+  bytes RECORDS                       the bytes of a table
+  fresh END RECORDS TID               makes the table of end 0 or 1 fresh
+  put END AT VALUE                    changes an octet of a table
+  look END                            a table in words
+  req END TIME PEER CLASS UP /DATA    a request
+  ans END TIME ROLE PEER TID /EXIT    the user's answer, with its exit information
+  res END TIME ROLE PEER TID /DATA    the user's result
+  abo END TIME ROLE PEER TID REASON   the user's abort
+  rcv END TIME PEER /PDU              a PDU received
+  get END TIME PEER                   the PDU that the other end sent last, received
+  tim END TIME                        the timer call
+  r PDU                               reads it; what was read is then written
+  w N=V .. /OCTETS                    writes the PDU of these words, whose parts lie in the octets
+  s DATAGRAM                          separates it, and reads each part
+  j N .. /OCTETS                      joins PDUs of these lengths
+  # ..                                a title
+
+Octets are pairs of hex digits; 41*255, is an octet 255 times. Each line is printed with what it gives. In braces stand the
+place of the record whose octets an accepted call changed, and its state before and after: {0: RTidokWait1 -> RInvokeRespWait1}.
+
+Exit status: 0 played, 2 wrong arguments, or a file or a line that can't be read.
+
+Example: scenarios tests/scenarios/commands.txt | diff tests/scenarios/expected.txt -";
+
 fn main() -> ExitCode {
-    let arguments: Vec<OsString> = std::env::args_os().skip(1).collect();
-    ExitCode::from(scenarios::run(&arguments, &mut io::stdout().lock(), &mut io::stderr().lock()))
+    Program { name: "scenarios", help: HELP, switches: Switches::default() }.run(|given| {
+        let [file] = given.all_names(["a file of scenarios"])?;
+        let text = std::fs::read_to_string(file).map_err(|error| format!("{file} can't be read: {error}"))?;
+        let mut told = String::new();
+        let played = play(&text, &mut told).map_err(|wrong| format!("{file}: {wrong}"));
+        say::out(told.trim_end_matches('\n'));
+        played.map(|()| 0)
+    })
 }
