@@ -12,7 +12,7 @@ only_there() {
 check "unsafe only around the library's calls and around signals" only_there
 
 has python3 || fetch python3
-for script in bench_cases codec_cases damage scenarios; do
+for script in bench_cases codec_cases damage scenarios rds_cases; do
     check "tests/$script.py: what is expected is what document 01 says, as read there" python3 "tests/$script.py" --check
 done
 check "crates.txt names the crates that are needed" python3 scripts/crates.py --check

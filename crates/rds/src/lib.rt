@@ -1,0 +1,90 @@
+// The C interface of the Reliable Data Service (include/rds.h): words in and words out, over the proved crates.
+ghost use mathlib.Core.Path.{_≡_};
+ghost use Prim.Native.Nat.{_≤_};
+ghost use lib.ListN.{length};
+ghost use Rattle.base_lists.specs.Seq.{put};
+ghost use Rattle.rds.specs.Calls.{isOn, readNumber, fieldsAfter, partAfter, putWords, putNumber, putOutput, putAnswer};
+use base_numbers::Refusal;
+use rds_datagram::Putting;
+
+// A flag is off with 0 and on with any other value.
+fn is_on(flag: u64) -> bool
+    ensures { λ r. ⌜ r ≡ isOn flag ⌝ }
+{
+    if flag == 0 {
+        return false;
+    }
+    true
+}
+
+// Reads a frame into 100 words.
+#[no_mangle]
+pub extern "C" fn rds_read(frame: &[u8], from_network: u64, fields: &mut [u64]) -> u64
+    ensures { λ r. ⌜ (r ≡ readNumber 100 (now (frame .entry)) «from_network» (now (fields .entry))) × (now (fields .exit) ≡ fieldsAfter (now (frame .entry)) «from_network» (now (fields .entry))) ⌝ }
+{
+    if fields.len() < 100 {
+        return base_numbers::number(Refusal::WrongSize);
+    }
+    let f = rds_reading::read(frame, is_on(from_network));
+    let body = f.body;
+    if rds_reading::sound(body) {
+        rds_words::store_fields(fields, f);
+        return 0;
+    }
+    base_numbers::number(Refusal::WrongFrame)
+}
+
+// Judges a frame whole, and tells where the datagram lies in it, its ports and its number.
+#[no_mangle]
+pub extern "C" fn rds_take(frame: &[u8], from_network: u64, part: &mut [u64]) -> u64
+    ensures { λ r. ⌜ (r ≡ readNumber 8 (now (frame .entry)) «from_network» (now (part .entry))) × (now (part .exit) ≡ partAfter (now (frame .entry)) «from_network» (now (part .entry))) ⌝ }
+{
+    if part.len() < 8 {
+        return base_numbers::number(Refusal::WrongSize);
+    }
+    let f = rds_reading::read(frame, is_on(from_network));
+    let body = f.body;
+    let head = f.head;
+    if rds_reading::sound(body) {
+        let words = rds_words::part_words(head, rds_reading::information_length(frame, head.end));
+        base_lists::store_words(part, 0, &words);
+        return 0;
+    }
+    base_numbers::number(Refusal::WrongFrame)
+}
+
+// The answer of rds_put: the frame's length, and the next number.
+fn store_put(answer: &mut [u64], len: usize, number: u64)
+    requires { ⌜ 16 ≤ length (now answer) ⌝ }
+    ensures { λ _. ⌜ now (answer .exit) ≡ put (now (answer .entry)) 0 (putWords len number) ⌝ }
+{
+    let n = len as u64;
+    let next = (number % 8 + 1) % 8;
+    let words = [n, 0, 0, 0, 0, 0, 0, 0, 0, 0, 0, 0, next, 0, 0, 0];
+    base_lists::store_words(answer, 0, &words);
+}
+
+// Puts a datagram into a UI frame at the start of the output.
+#[no_mangle]
+pub extern "C" fn rds_put(
+    datagram: &[u8],
+    ports: u64,
+    source: u64,
+    destination: u64,
+    number: u64,
+    out: &mut [u8],
+    answer: &mut [u64],
+) -> u64
+    ensures { λ r. ⌜ (r ≡ putNumber (now (datagram .entry)) ports source destination number (now (out .entry)) (now (answer .entry))) × (now (out .exit) ≡ putOutput (now (datagram .entry)) ports source destination number (now (out .entry)) (now (answer .entry))) × (now (answer .exit) ≡ putAnswer (now (datagram .entry)) ports source destination number (now (out .entry)) (now (answer .entry))) ⌝ }
+{
+    if answer.len() < 16 {
+        return base_numbers::number(Refusal::WrongSize);
+    }
+    match rds_datagram::put(datagram, is_on(ports), source, destination, number, out) {
+        Putting::Length(n) => {
+            store_put(answer, n, number);
+            0
+        }
+        Putting::Refused(r) => base_numbers::number(r),
+    }
+}

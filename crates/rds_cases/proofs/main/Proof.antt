@@ -1,0 +1,10 @@
+-- `rds_cases::main` meets its contract. Assumes nothing.
+use borrow.Author.Needs.{needs}
+use Rattle.rds_cases.proofs.main.Statement.{statement}
+use Rattle.rds_cases.proofs.main.Tie as tie
+
+pub main-spec : {M : Type 1} → statement M
+main-spec =
+    tie.close (tie.spec
+    (λ c κs. search needs) (λ c. search needs) (λ c κs. search needs) (λ c. search needs) (λ c. search needs)
+    (λ c κs. search needs) (λ c. search needs))

@@ -1,0 +1,111 @@
+// Runs the cases of its input, a line each, through the C interface of the Reliable Data Service, and prints what each gives:
+//   u OCTETS              read and take a frame of the UE
+//   n OCTETS              read and take a frame of the network
+//   p P S D N /OCTETS     put a datagram: ports on or off, Source Port, Destination Port, number
+// Each line is printed before what it gives; any other line is printed alone.
+ghost use Prim.Native.Nat.{_≤_};
+ghost use lib.ListN.{length};
+
+// A call's result.
+fn outcome(n: u64) {
+    if n == 0 {
+        case_lines::print(b": ok");
+        return;
+    }
+    case_lines::print(b": refused ");
+    case_lines::print_number(n);
+}
+
+// The words other than 0.
+fn words(fields: &[u64]) {
+    for k in 0..fields.len() {
+        if fields[k] != 0 {
+            case_lines::print(b" ");
+            case_lines::print_number(k as u64);
+            case_lines::print(b"=");
+            case_lines::print_number(fields[k]);
+        }
+    }
+}
+
+// The first n octets of an output.
+fn first(out: &[u8], n: u64) {
+    if n <= out.len() as u64 {
+        let end = n as usize;
+        case_lines::print(b" ");
+        case_lines::print_octets(&out[..end]);
+    }
+}
+
+fn frame_case(bytes: &[u8], from_network: u64) {
+    let mut fields = [0u64; 100];
+    let mut part = [0u64; 8];
+    outcome(rds::rds_read(bytes, from_network, &mut fields));
+    words(&fields);
+    outcome(rds::rds_take(bytes, from_network, &mut part));
+    words(&part);
+}
+
+fn put_case(line: &[u8], bytes: &[u8]) {
+    let mut n = [0u64; 4];
+    case_lines::gather(line, 2, &mut n);
+    let mut out = [238u8; 1523];
+    let mut answer = [0u64; 16];
+    outcome(rds::rds_put(bytes, n[0], n[1], n[2], n[3], &mut out, &mut answer));
+    words(&answer);
+    first(&out, answer[0]);
+}
+
+// The letter of a line's case, or 0: a letter followed by a space or nothing.
+fn kind_of(line: &[u8]) -> u8 {
+    if line.len() == 0 {
+        return 0;
+    }
+    if line.len() == 1 {
+        return line[0];
+    }
+    if line[1] == b' ' { line[0] } else { 0 }
+}
+
+// Where the octets start: after the slash of a line that has numbers, else after the letter.
+fn octets_at(line: &[u8], kind: u8) -> usize
+    ensures { λ r. ⌜ r ≤ length (now (line .entry)) ⌝ }
+{
+    if kind == b'p' {
+        return case_lines::after(line, b'/');
+    }
+    if line.len() < 2 { line.len() } else { 2 }
+}
+
+fn run_case(line: &[u8], kind: u8, bytes: &[u8]) {
+    match kind {
+        b'u' => frame_case(bytes, 0),
+        b'n' => frame_case(bytes, 1),
+        b'p' => put_case(line, bytes),
+        _ => {}
+    }
+}
+
+fn run_line(line: &[u8]) {
+    case_lines::print(line);
+    let mut bytes = [0u8; 1600];
+    let kind = kind_of(line);
+    let n = case_lines::octets(line, octets_at(line, kind), &mut bytes);
+    run_case(line, kind, &bytes[..n]);
+    case_lines::print(b"\n");
+}
+
+fn run_lines(text: &[u8]) {
+    let mut at = 0;
+    while at < text.len() {
+        let end = case_lines::line_end(text, at);
+        run_line(&text[at..end]);
+        at = end + 1;
+    }
+}
+
+fn main() {
+    let mut text = io::large_buffer();
+    let n = io::read_full(libc::STDIN_FILENO, &mut text);
+    run_lines(&text[..n]);
+}

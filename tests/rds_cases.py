@@ -1,0 +1,133 @@
+#!/usr/bin/env python3
+"""Writes the cases of the Reliable Data Service and what they must give: crates/rds_cases/stdin and stdout.
+
+The worked examples 1 to 19 of RDS.md (section 10), each with the words that its row names (section 6 numbers them): nothing
+here is taken from the definitions or the code, so the program's output is compared with a second opinion.
+usage: tests/rds_cases.py [--check]   (--check: only say whether both files are as this script writes them)
+"""
+import pathlib
+import sys
+
+from notation import text_of
+
+A = '00112233445566778899AABBCCDDEEFF03777470'
+B = A[:-2] + '71'
+
+# word numbers of a frame (section 6)
+KIND, ADS, SOURCE, DESTINATION, ACK, NS, NR, R, NU, M, RESPONSE, START, LENGTH, ACTION, STATUS = range(15)
+FROM, TO, APP, APP_LENGTH, FORMAT, SOME, BITMAP, ENTRIES = range(15, 23)
+I, S, UI, U = 1, 2, 3, 4
+ERROR, DISCONNECT, ACCEPT, SET_ACK_MODE, MANAGE_PORT, SET_PARAMETERS = 1, 4, 6, 7, 10, 11
+
+
+def frame(kind, ports=None, **named):
+    words = {KIND: kind}
+    if ports:
+        words.update({ADS: 1, SOURCE: ports[0], DESTINATION: ports[1]})
+    words.update({globals()[name.upper()]: value for name, value in named.items()})
+    return words
+
+
+def entry(k, source, destination, start, length, form=0):
+    at = 24 + 5 * k
+    return {at: source, at + 1: destination, at + 2: start, at + 3: length, at + 4: form}
+
+
+# who sent it ('u' UE, 'n' network, 'un' either), the frame, and what it reads as (None: 16)
+FRAMES = [
+    ('1', 'un', '400E000502', frame(UI, start=1, length=4)),
+    ('1', 'un', '4B35AA', frame(UI, (3, 5), nu=3, start=2, length=1)),
+    ('2', 'un', '50AA', frame(UI, start=1, length=1)),
+    ('2', 'un', '40', frame(UI, start=1)),
+    ('3', 'un', '220BAA', frame(I, ack=1, ns=2, r=2, start=2, length=1)),
+    ('3', 'un', '184312', frame(I, (1, 2), nr=2, start=3)),
+    ('4', 'un', '6043', frame(S, nr=2)),
+    ('4', 'un', '6FE751', frame(S, (5, 1), ack=1, nr=7, r=1)),
+    *[('5', 'un', f, None) for f in ('48', 'C0AA', '', '220AAA', '22', '280B', '604300', '6440')],
+    ('6', 'u', '7004', frame(U, m=DISCONNECT)),
+    ('6', 'u', '7406', frame(U, m=ACCEPT, response=1, start=2)),
+    ('6', 'n', '7004', None),
+    ('6', 'n', '7406', None),
+    ('7', 'n', '7001', frame(U, m=ERROR, response=1)),
+    ('7', 'u', '7001', frame(U, m=ERROR)),
+    ('8', 'u', '7BF73501', frame(U, (3, 5), m=SET_ACK_MODE, start=3, length=1)),
+    ('9', 'u', '700B000100', frame(U, m=SET_PARAMETERS, start=2, length=3)),
+    ('9', 'u', '700B0700', frame(U, m=SET_PARAMETERS, start=2, length=2)),
+    ('9', 'u', '700B', frame(U, m=SET_PARAMETERS, start=2)),
+    *[('10', 'u', f, None) for f in ('700400', '7002', '70', '700B00020000', '700B0001', '700B07')],
+    ('11', 'u', '700A0135' + A, frame(U, m=MANAGE_PORT, action=1, to=5, app=4, app_length=20) | {FROM: 3}),
+    ('12', 'u', '73AAF535' + A + 'FB', frame(U, m=MANAGE_PORT, action=5, to=5, app=4, app_length=20, format=3) | {FROM: 3}),
+    ('13', 'n', '700A0100', frame(U, m=MANAGE_PORT, response=1, action=1)),
+    ('13', 'n', '700A0202', frame(U, m=MANAGE_PORT, response=1, action=2, status=2)),
+    ('13', 'n', '700A050403', frame(U, m=MANAGE_PORT, response=1, action=5, format=4, status=3)),
+    ('14', 'u', '700A03', frame(U, m=MANAGE_PORT, action=3)),
+    ('14', 'u', '700A032380', frame(U, m=MANAGE_PORT, action=3, some=1, bitmap=32802)),
+    ('15', 'n', '700A1353' + A, frame(U, m=MANAGE_PORT, response=1, action=3, entries=1) | entry(0, 5, 3, 4, 20)),
+    ('15', 'n', '700A1353' + A + '0180', frame(U, m=MANAGE_PORT, response=1, action=3, entries=1, some=1, bitmap=32768) | entry(0, 5, 3, 4, 20)),
+    ('16', 'u', '700A2735' + A + '0146' + B + 'F9',
+     frame(U, m=MANAGE_PORT, action=7, entries=2) | entry(0, 3, 5, 4, 20, 1) | entry(1, 4, 6, 26, 20, 1)),
+    *[('17', 'n', f, None) for f in ('700A0104', '700A010000', '700A0500', '700A04', '700A1353' + A + '80', '700A2353' + A, '700A0353' + A)],
+    *[('18', 'u', f, None) for f in ('700A', '700A0835' + A, '780A350135' + A, '700A0135' + A + '00', '700A0322', '700A03228000')],
+]
+
+# section 6, `rds_put`: ports, source, destination, number; the datagram as it is written on the line and as octets; length and next number, or a refusal
+PUTS = [
+    ((0, 0, 0, 7), '0E000502', '470E000502', 0),
+    ((1, 3, 5, 2), '0E000502', '4A350E000502', 3),
+    ((0, 0, 0, 7), '00*1500', '47' + '00' * 1500, 0),
+    ((0, 0, 0, 7), '', None, 11),
+    ((0, 0, 0, 7), '00*1501', None, 11),
+    ((0, 0, 0, 8), '0E000502', None, 10),
+    ((0, 3, 0, 7), '0E000502', None, 10),
+]
+
+
+def shown(words):
+    return ''.join(f' {k}={words[k]}' for k in sorted(words) if words[k])
+
+
+def taken(words):
+    """PART of the words of a frame (section 6)."""
+    get = words.get
+    kind = words[KIND]
+    data = kind in (I, UI)
+    part = {0: kind, 3: get(ADS, 0), 4: get(SOURCE, 0), 5: get(DESTINATION, 0), 6: get(NS, 0) if kind == I else get(NU, 0)}
+    if data:
+        part.update({1: get(START, 0), 2: get(LENGTH, 0)})
+    return part
+
+
+def cases():
+    number = None
+    for n, senders, octets, words in FRAMES:
+        if n != number:
+            number = n
+            yield f'# RDS.md, section 10, {n}', ''
+        for sender in senders:
+            line = f'{sender} {octets}'.rstrip()
+            if words is None:
+                yield line, ': refused 16: refused 16'
+            else:
+                yield line, f': ok{shown(words)}: ok{shown(taken(words))}'
+    yield '# RDS.md, section 10, 19', ''
+    for numbers, written, octets, last in PUTS:
+        line = 'p ' + ' '.join(map(str, numbers)) + f' /{written}'
+        if octets is None:
+            yield line, f': refused {last} '
+        else:
+            yield line, f': ok{shown({0: len(octets) // 2, 12: last})} {text_of(bytes.fromhex(octets))}'
+
+
+def main():
+    lines = list(cases())
+    folder = pathlib.Path(__file__).resolve().parent.parent / 'crates' / 'rds_cases'
+    texts = {'stdin': ''.join(line + '\n' for line, _ in lines), 'stdout': ''.join(line + result + '\n' for line, result in lines)}
+    if sys.argv[1:] == ['--check']:
+        wrong = [name for name, text in texts.items() if (folder / name).read_text() != text]
+        print('rds_cases: as written' if not wrong else 'rds_cases: other than written: ' + ', '.join(wrong))
+        sys.exit(1 if wrong else 0)
+    for name, text in texts.items():
+        (folder / name).write_text(text)
+
+
+main()
