@@ -4,7 +4,8 @@ the definitions: a second opinion on what each call gives. It notes in `reached`
 
 BOUND = 10 ** 12
 LONGEST = 86400000
-HEADER, RECORD, CELL = 624, 160, 1024
+HEADER, RECORD, CELL = 624, 176, 1024
+SPARE, EXIT = 20, 48
 INITIATOR, RESPONDER = 0, 1
 ROLES = ["initiator", "responder"]
 STATES = ["Free", "IResultWait1", "IResultWait2", "IResultRespWait", "IWaitTimeout", "RTidokWait1", "RTidokWait2",
@@ -25,12 +26,12 @@ class Record:
     def __init__(self, w):
         self.state, self.peer, self.tid, self.rcr, self.aec = STATES[w[0]], w[1], number(w[2:4]), w[4], w[5]
         self.up, self.held, self.tidok_sent, self.hold_on_sent = (w[6] >> k & 1 for k in range(4))
-        self.deadline, self.length, self.exit, self.past_exit = number(w[8:16]), number(w[16:20]), bytes(w[32:32 + w[7]]), bytes(w[32:RECORD])
+        self.deadline, self.length, self.exit, self.past_exit = number(w[8:16]), number(w[16:20]), bytes(w[EXIT:EXIT + w[7]]), bytes(w[EXIT:RECORD])
 
     def octets(self):
         marks = self.up + 2 * self.held + 4 * self.tidok_sent + 8 * self.hold_on_sent
         w = bytes([STATES.index(self.state), self.peer]) + self.tid.to_bytes(2, "little") + bytes([self.rcr, self.aec, marks, len(self.exit)])
-        w += self.deadline.to_bytes(8, "little") + self.length.to_bytes(4, "little") + bytes(12)
+        w += self.deadline.to_bytes(8, "little") + self.length.to_bytes(4, "little") + bytes(EXIT - SPARE)
         return w + self.exit + self.past_exit[len(self.exit):]
 
     def live(self):
@@ -84,7 +85,7 @@ def well_formed(t):
             if any(w):
                 return False
             continue
-        if w[0] > 11 or number(w[2:4]) > 32767 or w[4] > t[10] or w[5] > t[11] or w[6] > 15 or w[7] > 128 or any(w[20:32]):
+        if w[0] > 11 or number(w[2:4]) > 32767 or w[4] > t[10] or w[5] > t[11] or w[6] > 15 or w[7] > 128 or any(w[SPARE:EXIT]):
             return False
         if number(w[8:16]) > BOUND + LONGEST or number(w[16:20]) > CELL:
             return False
@@ -494,7 +495,7 @@ class End:
 
 
 NORMAL = [0, 0, 1100, 33, 32]
-CAPACITY = [8464, 49 * CELL, 1200, 40, 40]
+CAPACITY = [HEADER + 49 * RECORD, 49 * CELL, 1200, 40, 40]
 ends = [End(), End()]
 lend = [None] * 5
 settings = []

@@ -540,15 +540,15 @@ def timers():
 
 def refusals():
     title("the fresh-table call: size, then settings and the first TID; 48 records at the most")
-    size(0, ": 0"), size(1, ": 784"), size(48, ": 8304"), size(49, ": 0"), size(2 ** 64 - 1, ": 0")
+    size(0, ": 0"), size(1, ": 800"), size(48, ": 9072"), size(49, ": 0"), size(2 ** 64 - 1, ": 0")
     sets()
     fresh(R, 0, has="refused 1"), fresh(R, 49, has="refused 1"), fresh(R, 48, 32767), fresh(R, 1, 32768, has="refused 10")
-    for sizes in ((783, 0, 0, 0, 32), (785, 0, 0, 0, 32), (624, 0, 0, 0, 32), (8464, 0, 0, 0, 32), (0, 0, 0, 0, 32)):
+    for sizes in ((799, 0, 0, 0, 32), (801, 0, 0, 0, 32), (624, 0, 0, 0, 32), (9248, 0, 0, 0, 32), (0, 0, 0, 0, 32)):
         lends(*sizes), fresh(R, 1, has="refused 1")
-    lends(783, 0, 0, 0, 31), fresh(R, 1, 32768, has="refused 1")
+    lends(799, 0, 0, 0, 31), fresh(R, 1, 32768, has="refused 1")
     edge("fresh: wrong size and bad setting")
     for n in (31, 33, 0):
-        lends(784, 0, 0, 0, n), fresh(R, 1, has="refused 10")
+        lends(800, 0, 0, 0, n), fresh(R, 1, has="refused 10")
     lends()
     for k, v in ((0, 9), (1, 9), (2, 0), (2, 86400001), (3, 0), (3, 86400001), (4, 0), (12, 0), (12, 86400001), (13, 0), (21, 0), (21, 86400001), (22, 1), (31, 1), (0, 2 ** 64 - 1), (2, 2 ** 32 + 5)):
         sets(**{"_%d" % k: v}), fresh(R, 1, has="refused 10")
@@ -561,17 +561,17 @@ def refusals():
     title("number 1 of the six calls: store, output, answer or table of the wrong size, whatever else is wrong")
     pair(records=2)
     req(R, 10, 5, 1)
-    for sizes in ((943, 2048, 1100, 33, 32), (945, 2048, 1100, 33, 32), (784, 2048, 1100, 33, 32), (624, 0, 1100, 33, 32), (0, 0, 1100, 33, 32), (944, 2047, 1100, 33, 32), (944, 2049, 1100, 33, 32), (944, 1024, 1100, 33, 32),
-                  (944, 2048, 1027, 33, 32), (944, 2048, 0, 33, 32), (944, 2048, 1100, 31, 32), (944, 2048, 1100, 0, 32), (8464, 50176, 1100, 33, 32)):
+    for sizes in ((975, 2048, 1100, 33, 32), (977, 2048, 1100, 33, 32), (800, 2048, 1100, 33, 32), (624, 0, 1100, 33, 32), (0, 0, 1100, 33, 32), (976, 2047, 1100, 33, 32), (976, 2049, 1100, 33, 32), (976, 1024, 1100, 33, 32),
+                  (976, 2048, 1027, 33, 32), (976, 2048, 0, 33, 32), (976, 2048, 1100, 31, 32), (976, 2048, 1100, 0, 32), (9248, 50176, 1100, 33, 32)):
         lends(*sizes)
         every_call("refused 1")
-    lends(944, 2048, 1028, 32, 32)
+    lends(976, 2048, 1028, 32, 32)
     rcv(R, 20, 5, "188007", has="Confirmed}")
     lends()
     title("number 1: a damaged table, one field after the other, each mended again; the time is wrong as well")
     pair(records=2, _0=4, _1=2)
     tim(R, 50), req(R, 60, 5, 1), req(R, 70, 5, 2)
-    for at, value in ((7, 1), (9, 128), (10, 9), (11, 9), (15, 255), (23, 255), (92, 1), (111, 1), (113, 129), (624, 12), (624, 0), (627, 128), (628, 5), (629, 3), (630, 16), (631, 129), (639, 1), (641, 255), (644, 1), (655, 255)):
+    for at, value in ((7, 1), (9, 128), (10, 9), (11, 9), (15, 255), (23, 255), (92, 1), (111, 1), (113, 129), (624, 12), (624, 0), (627, 128), (628, 5), (629, 3), (630, 16), (631, 129), (639, 1), (641, 255), (644, 1), (671, 255)):
         was = ends[R].octets[at]
         put(R, at, value), tim(R, 49, has="refused 1"), put(R, at, was)
     put(R, 10, 9), req(R, 0, 256, 3, 0, "00" * 1025, has="refused 1"), put(R, 10, 4)
@@ -579,10 +579,10 @@ def refusals():
     title("what is not judged: exit information past its length; it stays as it is, and is zeroed with its record")
     pair(records=2)
     req(R, 60, 5, 1), req(R, 70, 6, 1)
-    put(R, 783, 77), tim(R, 80, has="; none due"), put(R, 783, 77), tim(R, 2060, has="fired initiator 5/7"), put(R, 783, 77), abo(R, 2070, 0, 5, 7, 1), put(R, 783, 0), req(R, 2080, 5, 1, has="; tid 9")
+    put(R, 799, 77), tim(R, 80, has="; none due"), put(R, 799, 77), tim(R, 2060, has="fired initiator 5/7"), put(R, 799, 77), abo(R, 2070, 0, 5, 7, 1), put(R, 799, 0), req(R, 2080, 5, 1, has="; tid 9")
     title("two live records of the same role, peer and TID give 1")
     pair(records=2)
-    req(R, 60, 5, 1), req(R, 70, 5, 2), put(R, 786, 7), tim(R, 80, has="refused 1"), put(R, 786, 8), tim(R, 80, has="; none due")
+    req(R, 60, 5, 1), req(R, 70, 5, 2), put(R, 802, 7), tim(R, 80, has="refused 1"), put(R, 802, 8), tim(R, 80, has="; none due")
     title("every call refuses a damaged table, and works on the mended one")
     pair()
     req(R, 10, 5, 1), put(R, 100, 1)

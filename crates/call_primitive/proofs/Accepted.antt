@@ -5,9 +5,9 @@ use borrow.Author.Tests.{ltb-false}
 use mathlib.Core.Path.{_≡_, refl, sym, ap, _∙_}
 use mathlib.Core.List.{List, _++_}
 use mathlib.Core.Bool.{Bool, true, false}
+use Rattle.base_layout.specs.Layout.{timeBound, peers, exitBound, cellSize}
 use Rattle.base_lists.proofs.Laws.{true-false}
 use Rattle.table_layout.specs.Table.{clockOf}
-use Rattle.table_ranges.specs.Ranges.{timeBound, peers, cellSize, exitBound}
 use Rattle.table_well_formed.specs.WellFormed.{Fitting}
 use Rattle.row_events.specs.declared.Row.the-variants as Row
 use Rattle.table_finding.specs.declared.Found.{Found}

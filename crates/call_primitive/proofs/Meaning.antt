@@ -7,13 +7,13 @@ use mathlib.Core.List.{List}
 use mathlib.Core.Bool.{Bool, true, false}
 use mathlib.Core.Logic.{_⊎_, inl, inr}
 use lib.Dec.{ltb, eqb}
+use Rattle.base_layout.specs.Layout.{exitBound, cellSize}
 use Rattle.base_lists.specs.Seq.{pick}
 use Rattle.base_lists.proofs.Laws.{true-false, both, both-fst, both-snd}
 use Rattle.table_record.specs.Record.{roleOf, classOf}
 use Rattle.table_record.specs.declared.Role.{Role}
 use Rattle.table_record.specs.declared.Role.the-variants.{Initiator, Responder}
 use Rattle.table_layout.specs.Table.{recordAt}
-use Rattle.table_ranges.specs.Ranges.{cellSize, exitBound}
 use Rattle.row_events.specs.declared.Row.{Row}
 use Rattle.row_events.specs.declared.Row.the-variants as Row
 use Rattle.row_events.specs.Events.{sameRow}

@@ -4,13 +4,13 @@ use mathlib.Core.Path.{_≡_}
 use mathlib.Core.List.{List, [], _∷_, _++_}
 use mathlib.Core.Bool.{Bool, true, false, not}
 use lib.Dec.{ltb, eqb}
+use Rattle.base_layout.specs.Layout.{peerBound, exitBound, cellSize}
 use Rattle.base_lists.specs.Seq.{pick}
 use Rattle.base_numbers.specs.declared.Refusal.the-variants.{PeerTooLarge, TooLong, NoRecord, NotAllowed}
 use Rattle.table_record.specs.Record.{roleOf, classOf, roleNumber}
 use Rattle.table_record.specs.declared.Role.{Role}
 use Rattle.table_record.specs.declared.Role.the-variants.{Initiator, Responder}
 use Rattle.table_layout.specs.Table.{count, recordAt}
-use Rattle.table_ranges.specs.Ranges.{cellSize, exitBound}
 use Rattle.table_record_ok.specs.OneRecord.{Live}
 use Rattle.table_finding.specs.Finding.{isFound, namedOf}
 use Rattle.table_finding.specs.declared.Found.{Found}
@@ -84,7 +84,7 @@ abbrev pub entryTests : List ℕ → ℕ → ℕ → Primitive → List Test
 entryTests t store output p =
     unfit t store output
     ∷ tooLate t (p .time)
-    ∷ test PeerTooLarge (ltb 255 (p .peer))
+    ∷ test PeerTooLarge (ltb peerBound (p .peer))
     ∷ []
 
 -- numbers 4, 8, 9, of the record that is named

@@ -2,9 +2,9 @@
 ghost use mathlib.Core.Path.{_≡_};
 ghost use Prim.Native.Nat.{_≤_};
 ghost use mathlib.Core.Bool.{not};
+ghost use Rattle.base_layout.specs.Layout.{timeBound, exitBound, cellSize};
 ghost use Rattle.table_finding.specs.Finding.{isFound, Within};
 ghost use Rattle.call_primitive.specs.Primitives.{Named, namedBy, isResponder, exitRefused, tooMuch, refusesRow, notAllowed, entryTests, foundTests, primitiveStep, foundFor, foundPlan, primitivePlan};
-ghost use Rattle.table_ranges.specs.Ranges.{timeBound, cellSize, exitBound};
 ghost use Rattle.table_well_formed.specs.WellFormed.{WellFormed};
 ghost use Rattle.call_refusal.specs.Judging.{lowest};
 use base_numbers::Refusal;
@@ -79,10 +79,10 @@ fn too_much(t: &[u8], p: Primitive, found: Found) -> bool
     requires { ⌜ Within (now t) found ⌝ }
     ensures { λ r. ⌜ r ≡ tooMuch (now (t .entry)) p found ⌝ }
 {
-    if 1024 < p.len {
+    if base_layout::CELL_SIZE < p.len {
         return true;
     }
-    if 128 < p.exit_len {
+    if base_layout::EXIT_BOUND < p.exit_len {
         return true;
     }
     if 0 < p.exit_len {
@@ -122,7 +122,7 @@ fn judged(t: &[u8], store: usize, output: usize, p: Primitive) -> Judged
     if call_refusal::late(t, p.time) {
         return Judged::Refuse(Refusal::WrongTime);
     }
-    if 255 < p.peer {
+    if base_layout::PEER_BOUND < p.peer {
         return Judged::Refuse(Refusal::PeerTooLarge);
     }
     Judged::Accept

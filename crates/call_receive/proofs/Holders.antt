@@ -1,10 +1,10 @@
 -- The holder of a PDU without a live record has a place inside the table and its PDU's TID. Assumes nothing.
 use Prim.Native.Nat.{ℕ, _≤_, _<_}
 use mathlib.Core.Path.{_≡_}
+use Rattle.base_layout.specs.Layout.{tidBound, recordsBound}
 use Rattle.table_record.specs.declared.Role.{Role}
 use Rattle.codec_pdu.specs.declared.Kind.{Kind}
 use Rattle.table_finding.specs.declared.Found.{Found}
-use Rattle.table_ranges.specs.Ranges.{tidBound, recordsBound}
 use Rattle.step_plan.specs.declared.Holder.{Holder}
 use Rattle.step_opening.specs.Opens.{placeFor}
 use Rattle.call_receive.specs.Receives.{arriverOf}

@@ -7,6 +7,7 @@ use mathlib.Core.List.{List}
 use mathlib.Core.Bool.{Bool, true, false}
 use lib.ListN.{length}
 use lib.Dec.{ltb, eqb}
+use Rattle.base_layout.specs.Layout.{cellSize}
 use Rattle.base_lists.specs.Seq.{pick}
 use Rattle.base_numbers.specs.declared.Verdict.{Verdict}
 use Rattle.base_numbers.specs.declared.Verdict.the-variants.{Sound, Bad}
@@ -17,7 +18,6 @@ use Rattle.codec_pdu.specs.declared.Pdu.{Pdu}
 use Rattle.codec_reading.specs.Read.{headOf, itemsAfter, whole, finishBy, finished, afterHead, pduOf}
 use Rattle.codec_reading.specs.declared.Head.{Head}
 use Rattle.codec_reading.proofs.Inside.{head-inside, items-inside}
-use Rattle.table_ranges.specs.Ranges.{cellSize}
 use Rattle.call_receive.specs.Receives.{userPart, keptPart}
 use Rattle.step_plan.specs.Steps.{noPart}
 use Rattle.step_plan.specs.declared.Part.{Part}

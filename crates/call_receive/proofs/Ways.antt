@@ -6,6 +6,7 @@ use mathlib.Core.List.{List}
 use mathlib.Core.Bool.{Bool, true, false, not}
 use mathlib.Core.Logic.{_⊎_, inl, inr}
 use lib.Dec.{eqb}
+use Rattle.base_layout.specs.Layout.{tidBound}
 use Rattle.base_lists.specs.Seq.{pick}
 use Rattle.base_lists.proofs.Laws.{true-false}
 use Rattle.codec_pdu.specs.declared.Pdu.{Pdu}
@@ -13,7 +14,6 @@ use Rattle.codec_reading.specs.Read.{pduOf}
 use Rattle.table_record.specs.declared.Role.{Role}
 use Rattle.table_record.specs.declared.Role.the-variants.{Responder}
 use Rattle.table_layout.specs.Table.{count, recordAt}
-use Rattle.table_ranges.specs.Ranges.{tidBound}
 use Rattle.table_well_formed.specs.WellFormed.{WellFormed}
 use Rattle.table_finding.specs.Finding.{isFound, namedOf, freeOf}
 use Rattle.table_finding.specs.declared.Found.{Found}

@@ -5,6 +5,7 @@ use mathlib.Core.List.{List, [], _∷_}
 use mathlib.Core.Bool.{Bool, true, false, not}
 use lib.ListN.{length}
 use lib.Dec.{ltb, eqb}
+use Rattle.base_layout.specs.Layout.{peerBound, peers, cellSize, datagramBound}
 use Rattle.base_lists.specs.Seq.{pick}
 use Rattle.base_numbers.specs.declared.Refusal.the-variants.{PeerTooLarge, WrongLength}
 use Rattle.codec_pdu.specs.declared.Kind.{Kind}
@@ -13,7 +14,6 @@ use Rattle.codec_pdu.specs.declared.Pdu.{Pdu}
 use Rattle.codec_reading.specs.Read.{pduOf}
 use Rattle.table_record.specs.declared.Role.{Role}
 use Rattle.table_layout.specs.Table.{count, cachedOf}
-use Rattle.table_ranges.specs.Ranges.{peers, cellSize}
 use Rattle.table_finding.specs.Finding.{isFound, namedOf, freeOf}
 use Rattle.table_finding.specs.declared.Found.{Found}
 use Rattle.table_finding.specs.declared.Found.the-variants as Found
@@ -44,8 +44,8 @@ abbrev pub receiveTests : List ℕ → ℕ → ℕ → ℕ → ℕ → ℕ → L
 receiveTests t store output time peer len =
     unfit t store output
     ∷ tooLate t time
-    ∷ test PeerTooLarge (ltb 255 peer)
-    ∷ test WrongLength (pick (eqb len 0) true (ltb 1500 len))
+    ∷ test PeerTooLarge (ltb peerBound peer)
+    ∷ test WrongLength (pick (eqb len 0) true (ltb datagramBound len))
     ∷ []
 
 -- ---- a PDU for a live record

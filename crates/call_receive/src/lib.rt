@@ -2,7 +2,7 @@
 ghost use mathlib.Core.Path.{_≡_};
 ghost use Prim.Native.Nat.{_≤_, _<_};
 ghost use lib.ListN.{length};
-ghost use Rattle.table_ranges.specs.Ranges.{timeBound, tidBound, recordsBound};
+ghost use Rattle.base_layout.specs.Layout.{timeBound, tidBound, recordsBound};
 ghost use Rattle.table_layout.specs.Table.{count, recordAt};
 ghost use Rattle.table_well_formed.specs.WellFormed.{WellFormed};
 ghost use Rattle.call_refusal.specs.Judging.{lowest};
@@ -35,13 +35,13 @@ fn judged(t: &[u8], store: usize, output: usize, time: u64, peer: u64, len: usiz
     if call_refusal::late(t, time) {
         return Judged::Refuse(Refusal::WrongTime);
     }
-    if 255 < peer {
+    if base_layout::PEER_BOUND < peer {
         return Judged::Refuse(Refusal::PeerTooLarge);
     }
     if len == 0 {
         return Judged::Refuse(Refusal::WrongLength);
     }
-    if 1500 < len {
+    if base_layout::DATAGRAM_BOUND < len {
         return Judged::Refuse(Refusal::WrongLength);
     }
     Judged::Accept
@@ -83,7 +83,7 @@ fn taken(t: &[u8], place: usize, time: u64, p: Pdu) -> Step
 fn kept_part(p: Pdu) -> Part
     ensures { λ r. ⌜ r ≡ keptPart p ⌝ }
 {
-    if 1024 < p.len {
+    if base_layout::CELL_SIZE < p.len {
         return step_plan::no_part();
     }
     Part {

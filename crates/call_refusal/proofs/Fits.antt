@@ -7,10 +7,10 @@ use mathlib.Core.List.{List, [], _∷_}
 use mathlib.Core.Bool.{Bool, true, false, not}
 use lib.Dec.{ltb}
 use lib.ListN.{length}
+use Rattle.base_layout.specs.Layout.{headerSize, recordSize, base, timeBound}
 use Rattle.base_lists.specs.Seq.{pick}
 use Rattle.base_lists.proofs.Laws.{true-false}
-use Rattle.table_layout.specs.Table.{headerSize, recordSize, base, count, clockOf}
-use Rattle.table_ranges.specs.Ranges.{timeBound}
+use Rattle.table_layout.specs.Table.{count, clockOf}
 use Rattle.table_well_formed.specs.WellFormed.{WellFormed, Fitting, fitting}
 use Rattle.table_well_formed.proofs.Meaning.{to-fitting}
 use Rattle.call_refusal.specs.Judging.{Test, lowest, lateOf}

@@ -5,11 +5,11 @@ use mathlib.Core.List.{List, [], _∷_}
 use mathlib.Core.Bool.{Bool, true, false, not}
 use mathlib.Core.Logic.{_⊎_}
 use lib.Dec.{ltb}
+use Rattle.base_layout.specs.Layout.{timeBound}
 use Rattle.base_lists.specs.Seq.{pick}
 use Rattle.base_numbers.specs.declared.Refusal.{Refusal}
 use Rattle.base_numbers.specs.declared.Refusal.the-variants.{WrongSize, WrongTime}
 use Rattle.table_layout.specs.Table.{clockOf}
-use Rattle.table_ranges.specs.Ranges.{timeBound}
 use Rattle.table_well_formed.specs.WellFormed.{Fitting, fitting}
 use Rattle.step_plan.specs.declared.Step.{Step}
 use Rattle.step_plan.specs.declared.Plan.{Plan}

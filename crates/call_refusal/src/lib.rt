@@ -2,7 +2,8 @@
 ghost use mathlib.Core.Path.{_≡_};
 ghost use Prim.Native.Nat.{_≤_};
 ghost use lib.ListN.{length};
-ghost use Rattle.table_layout.specs.Table.{headerSize, count};
+ghost use Rattle.base_layout.specs.Layout.{headerSize};
+ghost use Rattle.table_layout.specs.Table.{count};
 ghost use Rattle.call_refusal.specs.Judging.{lateOf};
 use base_numbers::Refusal;
 
@@ -20,7 +21,7 @@ pub fn late(t: &[u8], time: u64) -> bool
     if time < table_layout::clock_of(t) {
         true
     } else {
-        1000000000000 < time
+        base_layout::TIME_BOUND < time
     }
 }
 
@@ -29,5 +30,5 @@ pub fn records(t: &[u8]) -> usize
     requires { ⌜ headerSize ≤ length (now t) ⌝ }
     ensures { λ r. ⌜ r ≡ count (now (t .entry)) ⌝ }
 {
-    (t.len() - 624) / 160
+    (t.len() - base_layout::HEADER_SIZE) / base_layout::RECORD_SIZE
 }

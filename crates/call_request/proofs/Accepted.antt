@@ -7,13 +7,13 @@ use mathlib.Core.Bool.{Bool, true, false}
 use mathlib.Core.Logic.{_⊎_, inl, inr}
 use lib.Dec.{ltb}
 use borrow.Author.Tests.{ltb-false}
+use Rattle.base_layout.specs.Layout.{timeBound, peers, recordsBound, cellSize}
 use Rattle.base_lists.proofs.Laws.{true-false}
 use Rattle.table_record.specs.Record.{roleOf}
 use Rattle.table_record.specs.declared.Role.the-variants.{Initiator}
 use Rattle.table_record.specs.declared.State.the-variants.{Free}
 use Rattle.table_record.specs.declared.Record.{Record}
 use Rattle.table_layout.specs.Table.{count, genTidOf, recordAt}
-use Rattle.table_ranges.specs.Ranges.{timeBound, recordsBound, cellSize, peers}
 use Rattle.table_record_ok.specs.OneRecord.{Live}
 use Rattle.table_names_ok.specs.Names.{SameName}
 use Rattle.table_well_formed.specs.WellFormed.{WellFormed}

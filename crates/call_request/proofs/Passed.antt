@@ -5,7 +5,8 @@ use mathlib.Core.Path.{_≡_, sym}
 use mathlib.Core.List.{List}
 use mathlib.Core.Bool.{Bool, false, not}
 use lib.ListN.{length}
-use Rattle.table_layout.specs.Table.{headerSize, recordSize, count}
+use Rattle.base_layout.specs.Layout.{headerSize, recordSize}
+use Rattle.table_layout.specs.Table.{count}
 use Rattle.table_well_formed.specs.WellFormed.{WellFormed, fitting}
 use Rattle.call_refusal.proofs.Fits.{fits, records-there}
 

@@ -4,12 +4,12 @@ use mathlib.Core.Path.{_≡_}
 use mathlib.Core.List.{List, [], _∷_, _++_}
 use mathlib.Core.Bool.{Bool, false, not}
 use lib.Dec.{ltb}
+use Rattle.base_layout.specs.Layout.{peerBound, peers, cellSize}
 use Rattle.base_lists.specs.Seq.{pick}
 use Rattle.base_numbers.specs.declared.Refusal.the-variants.{PeerTooLarge, TooLong, WrongClass, TidInUse, TableFull}
 use Rattle.table_record.specs.Record.{roleOf}
 use Rattle.table_record.specs.declared.Role.the-variants.{Initiator}
 use Rattle.table_layout.specs.Table.{count, genTidOf, recordAt}
-use Rattle.table_ranges.specs.Ranges.{peers, cellSize}
 use Rattle.table_record_ok.specs.OneRecord.{Live}
 use Rattle.table_finding.specs.Finding.{isFound, freeOf, tidInUse}
 use Rattle.table_finding.specs.declared.Found.{Found}
@@ -41,7 +41,7 @@ abbrev pub entryTests : List ℕ → ℕ → ℕ → Request → List Test
 entryTests t store output q =
     unfit t store output
     ∷ tooLate t (q .time)
-    ∷ test PeerTooLarge (ltb 255 (q .peer))
+    ∷ test PeerTooLarge (ltb peerBound (q .peer))
     ∷ test TooLong (ltb cellSize (q .len))
     ∷ test WrongClass (ltb 2 (q .class))
     ∷ test TidInUse (tidInUse t (count t) (genTidOf t))

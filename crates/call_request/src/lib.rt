@@ -1,7 +1,7 @@
 // What a request will do.
 ghost use mathlib.Core.Path.{_≡_};
 ghost use Prim.Native.Nat.{_≤_, _<_};
-ghost use Rattle.table_ranges.specs.Ranges.{timeBound, cellSize, recordsBound};
+ghost use Rattle.base_layout.specs.Layout.{timeBound, recordsBound, cellSize};
 ghost use Rattle.table_well_formed.specs.WellFormed.{WellFormed};
 ghost use Rattle.call_refusal.specs.Judging.{lowest};
 ghost use Rattle.step_opening.specs.Opens.{placeFor};
@@ -38,10 +38,10 @@ fn judged(t: &[u8], store: usize, output: usize, q: Request) -> Judged
     if call_refusal::late(t, q.time) {
         return Judged::Refuse(Refusal::WrongTime);
     }
-    if 255 < q.peer {
+    if base_layout::PEER_BOUND < q.peer {
         return Judged::Refuse(Refusal::PeerTooLarge);
     }
-    if 1024 < q.len {
+    if base_layout::CELL_SIZE < q.len {
         return Judged::Refuse(Refusal::TooLong);
     }
     if 2 < q.class {

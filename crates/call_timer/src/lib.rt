@@ -1,7 +1,7 @@
 // What the timer call will do.
 ghost use mathlib.Core.Path.{_≡_};
 ghost use Prim.Native.Nat.{_≤_, _<_};
-ghost use Rattle.table_ranges.specs.Ranges.{timeBound};
+ghost use Rattle.base_layout.specs.Layout.{timeBound};
 ghost use Rattle.table_well_formed.specs.WellFormed.{WellFormed};
 ghost use Rattle.call_refusal.specs.Judging.{lowest};
 ghost use Rattle.call_timer.specs.Timers.{timerTests, timerStep, timerPlan};

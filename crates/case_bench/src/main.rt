@@ -102,7 +102,7 @@ fn print_timer(table: &mut [u8], store: &mut [u8]) {
 }
 
 fn main() {
-    let mut table = [0u8; 8304];
+    let mut table = [0u8; 9072];
     let mut store = [0u8; 49152];
     print_title();
     print_lengths();

@@ -4,6 +4,7 @@ use mathlib.Core.List.{List, [], _∷_, _++_}
 use mathlib.Core.Bool.{Bool, true, false}
 use lib.ListN.{length, take, drop}
 use lib.Dec.{ltb, leb, eqb}
+use Rattle.base_layout.specs.Layout.{datagramBound}
 use Rattle.base_lists.specs.Seq.{pick, put}
 use Rattle.base_numbers.specs.declared.Refusal.the-variants.{WrongSize, WrongLength}
 use Rattle.codec_joining.specs.declared.Joining.{Joining}
@@ -25,7 +26,7 @@ joinedOctets bytes lengths = 0 ∷ listed bytes lengths
 -- 01, number 11: whether no PDU's length is "outside 1 to 1,500"
 unfoldable pub eachInRange : List ℕ → Bool
 eachInRange [] = true
-eachInRange (n ∷ ns) = pick (leb 1 n) (pick (leb n 1500) (eachInRange ns) false) false
+eachInRange (n ∷ ns) = pick (leb 1 n) (pick (leb n datagramBound) (eachInRange ns) false) false
 
 -- the lengths together
 unfoldable pub sum : List ℕ → ℕ
@@ -37,7 +38,7 @@ unfoldable pub joinable : List ℕ → List ℕ → Bool
 joinable bytes lengths =
     pick (eqb (length lengths) 0) false
     (pick (eachInRange lengths)
-    (pick (eqb (sum lengths) (length bytes)) (leb (length (joinedOctets bytes lengths)) 1500) false)
+    (pick (eqb (sum lengths) (length bytes)) (leb (length (joinedOctets bytes lengths)) datagramBound) false)
     false)
 
 -- the length of the joined datagram, or number 11
@@ -46,7 +47,7 @@ plannedAnswer bytes lengths = pick (joinable bytes lengths) (Length (length (joi
 
 -- 01: output "at least .. 1,500 for the PDU writer and the joiner", else number 1
 unfoldable pub joinedAnswer : List ℕ → List ℕ → List ℕ → Joining
-joinedAnswer bytes lengths out = pick (ltb (length out) 1500) (Refused WrongSize) (plannedAnswer bytes lengths)
+joinedAnswer bytes lengths out = pick (ltb (length out) datagramBound) (Refused WrongSize) (plannedAnswer bytes lengths)
 
 -- 01: "A refusal gives only its number and changes no lent byte"; else the datagram stands at the start of the output
 abbrev pub outputBy : Joining → List ℕ → List ℕ → List ℕ → List ℕ

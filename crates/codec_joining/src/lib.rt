@@ -4,10 +4,14 @@ ghost use mathlib.Core.Bool.{true};
 ghost use mathlib.Core.List.{_++_};
 ghost use Prim.Native.Nat.{_+_, _≤_};
 ghost use lib.ListN.{length};
+ghost use Rattle.base_layout.specs.Layout.{datagramBound};
 ghost use Rattle.base_lists.specs.Seq.{put, part};
 ghost use Rattle.codec_joining.specs.Join.{lengthOctets, joinedOctets, joinable, plannedAnswer, joinedAnswer, outputAfter};
 ghost use Rattle.codec_joining.specs.Fitting.{fitsIn};
 use base_numbers::Refusal;
+
+// What a datagram has room for after its first octet, which is 0.
+const ROOM: usize = base_layout::DATAGRAM_BOUND - 1;
 
 // The length of the joined datagram, or why there is none.
 pub enum Joining {
@@ -53,7 +57,7 @@ fn planned(bytes: &[u8], lengths: &[u64]) -> Joining
         return Joining::Refused(Refusal::WrongLength);
     }
     let mut left = bytes.len();
-    let mut room = 1499;
+    let mut room = ROOM;
     let mut i = 0;
     while i < lengths.len() {
         let n = count(lengths[i]);
@@ -66,7 +70,7 @@ fn planned(bytes: &[u8], lengths: &[u64]) -> Joining
         }
     }
     if left == 0 {
-        Joining::Length(1500 - room)
+        Joining::Length(base_layout::DATAGRAM_BOUND - room)
     } else {
         Joining::Refused(Refusal::WrongLength)
     }
@@ -74,7 +78,7 @@ fn planned(bytes: &[u8], lengths: &[u64]) -> Joining
 
 // Stores a length in out from `at` on, and gives the place after it.
 fn put_length(out: &mut [u8], at: usize, n: usize) -> usize
-    requires { ⌜ (n ≤ 1500) × (at + length (lengthOctets n) ≤ length (now out)) ⌝ }
+    requires { ⌜ (n ≤ datagramBound) × (at + length (lengthOctets n) ≤ length (now out)) ⌝ }
     ensures { λ r. ⌜ (r ≡ at + length (lengthOctets n)) × (now (out .exit) ≡ put (now (out .entry)) at (lengthOctets n)) ⌝ }
 {
     if n <= 127 {
@@ -89,7 +93,7 @@ fn put_length(out: &mut [u8], at: usize, n: usize) -> usize
 
 // Stores the PDU of n octets of bytes from `from` on, after its length, and gives the place after it.
 fn put_part(out: &mut [u8], at: usize, bytes: &[u8], from: usize, n: usize) -> usize
-    requires { ⌜ (n ≤ 1500) × (from + n ≤ length (now bytes)) × (at + length (lengthOctets n) + n ≤ length (now out)) ⌝ }
+    requires { ⌜ (n ≤ datagramBound) × (from + n ≤ length (now bytes)) × (at + length (lengthOctets n) + n ≤ length (now out)) ⌝ }
     ensures { λ r. ⌜ (r ≡ at + length (lengthOctets n) + n) × (now (out .exit) ≡ put (now (out .entry)) at (lengthOctets n ++ part (now (bytes .entry)) from n)) ⌝ }
 {
     let next = put_length(&mut *out, at, n);
@@ -99,7 +103,7 @@ fn put_part(out: &mut [u8], at: usize, bytes: &[u8], from: usize, n: usize) -> u
 
 // Stores the joined datagram at the start of out.
 fn write(bytes: &[u8], lengths: &[u64], out: &mut [u8])
-    requires { ⌜ (joinable (now bytes) (now lengths) ≡ true) × (1500 ≤ length (now out)) ⌝ }
+    requires { ⌜ (joinable (now bytes) (now lengths) ≡ true) × (datagramBound ≤ length (now out)) ⌝ }
     ensures { λ _. ⌜ now (out .exit) ≡ put (now (out .entry)) 0 (joinedOctets (now (bytes .entry)) (now (lengths .entry))) ⌝ }
 {
     out[0] = 0;
@@ -118,7 +122,7 @@ fn write(bytes: &[u8], lengths: &[u64], out: &mut [u8])
 pub fn join(bytes: &[u8], lengths: &[u64], out: &mut [u8]) -> Joining
     ensures { λ r. ⌜ (r ≡ joinedAnswer (now (bytes .entry)) (now (lengths .entry)) (now (out .entry))) × (now (out .exit) ≡ outputAfter (now (bytes .entry)) (now (lengths .entry)) (now (out .entry))) ⌝ }
 {
-    if out.len() < 1500 {
+    if out.len() < base_layout::DATAGRAM_BOUND {
         return Joining::Refused(Refusal::WrongSize);
     }
     match planned(bytes, lengths) {

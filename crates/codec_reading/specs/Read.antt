@@ -4,6 +4,7 @@ use mathlib.Core.List.{List}
 use mathlib.Core.Bool.{Bool, true, false}
 use lib.ListN.{length, getD, replicate}
 use lib.Dec.{ltb, leb, eqb}
+use Rattle.base_layout.specs.Layout.{datagramBound}
 use Rattle.base_lists.specs.Seq.{pick}
 use Rattle.base_numbers.specs.declared.Malformed.{Malformed}
 use Rattle.base_numbers.specs.declared.Malformed.the-variants.{D1, D2, D5, D6, D7}
@@ -98,5 +99,5 @@ afterHead s h = pick (soundOf (h .kind)) (finished s h (itemsAfter s h)) (blankP
 unfoldable pub pduOf : List ℕ → Pdu
 pduOf s =
     pick (eqb (length s) 0) (blankPdu (Refused WrongLength))
-    (pick (ltb 1500 (length s)) (blankPdu (Refused WrongLength))
+    (pick (ltb datagramBound (length s)) (blankPdu (Refused WrongLength))
     (afterHead s (headOf s)))

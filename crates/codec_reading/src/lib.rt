@@ -215,7 +215,7 @@ pub fn read(s: &[u8]) -> Pdu
     if s.len() == 0 {
         return codec_pdu::blank(Kind::Refused(Refusal::WrongLength));
     }
-    if 1500 < s.len() {
+    if base_layout::DATAGRAM_BOUND < s.len() {
         return codec_pdu::blank(Kind::Refused(Refusal::WrongLength));
     }
     let head = head_of(s);

@@ -3,6 +3,7 @@ use Prim.Native.Nat.{ℕ, _+_, _*_, _%_, _<_, _≤_}
 use mathlib.Core.Path.{_≡_}
 use mathlib.Core.List.{List}
 use lib.ListN.{length, getD}
+use Rattle.base_layout.specs.Layout.{datagramBound}
 
 -- 01: "Length is 7 bits, or 15 after a leading 1": the length at `at` announces a PDU of len octets from start on
 pub data Announced (d : List ℕ) (at : ℕ) : ℕ → ℕ → Type 0 where
@@ -17,7 +18,7 @@ pub data Reached (d : List ℕ) : ℕ → Type 0 where
 -- 01, number 11: "length outside 1 to 1,500"; "Zero length, an overrun or no PDU"; a length that is cut
 pub data Faulty (d : List ℕ) : Type 0 where
   empty : length d ≡ 0 → Faulty d
-  over : 1500 < length d → Faulty d
+  over : datagramBound < length d → Faulty d
   no-pdu : getD d 0 0 ≡ 0 → length d ≡ 1 → Faulty d
   zero-length : {at start : ℕ} → getD d 0 0 ≡ 0 → Reached d at → Announced d at start 0 → Faulty d
   overrun : {at start len : ℕ} → getD d 0 0 ≡ 0 → Reached d at → Announced d at start len → length d < start + len → Faulty d

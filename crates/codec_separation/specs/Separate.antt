@@ -3,6 +3,7 @@ use Prim.Native.Nat.{ℕ, zero, suc, _+_, _-_, _*_, _%_}
 use mathlib.Core.List.{List, [], _∷_}
 use lib.ListN.{length, getD}
 use lib.Dec.{ltb, leb, eqb}
+use Rattle.base_layout.specs.Layout.{datagramBound}
 use Rattle.base_lists.specs.Seq.{pick, part}
 use Rattle.base_numbers.specs.declared.Refusal.the-variants.{WrongLength}
 use Rattle.codec_pdu.specs.Pdu.{blankPdu}
@@ -58,7 +59,7 @@ whole d = record { start = 0; len = length d }
 unfoldable pub partsOf : List ℕ → Split
 partsOf d =
     pick (eqb (length d) 0) refused
-    (pick (ltb 1500 (length d)) refused
+    (pick (ltb datagramBound (length d)) refused
     (pick (eqb (getD d 0 0) 0)
     (pick (eqb (length d) 1) refused (partsFrom (length d) d 1))
     (parts (whole d ∷ []))))

@@ -2,6 +2,7 @@
 ghost use mathlib.Core.Path.{_≡_};
 ghost use Prim.Native.Nat.{_+_, _≤_, _<_};
 ghost use lib.ListN.{length};
+ghost use Rattle.base_layout.specs.Layout.{datagramBound};
 ghost use Rattle.codec_separation.specs.Separate.{partOf, partAt, partsFrom, partsOf, answerAt, pduAt};
 ghost use Rattle.codec_separation.specs.Counting.{counted};
 use base_numbers::Refusal;
@@ -72,7 +73,7 @@ fn part_at(d: &[u8], at: usize) -> Found
 
 // Counts one part more in.
 fn count_in(seen: Seen, k: usize, start: usize, len: usize) -> Seen
-    requires { ⌜ seen .count < 1500 ⌝ }
+    requires { ⌜ seen .count < datagramBound ⌝ }
     ensures { λ r. ⌜ r ≡ counted seen k start len ⌝ }
 {
     if seen.count == k {
@@ -92,7 +93,7 @@ fn count_in(seen: Seen, k: usize, start: usize, len: usize) -> Seen
 
 // The k-th part of a datagram of octet 0, lengths and PDUs.
 fn walk(d: &[u8], k: usize) -> Separation
-    requires { ⌜ (1 ≤ length (now d)) × (length (now d) ≤ 1500) ⌝ }
+    requires { ⌜ (1 ≤ length (now d)) × (length (now d) ≤ datagramBound) ⌝ }
     ensures { λ r. ⌜ r ≡ answerAt (partsFrom (length (now (d .entry))) (now (d .entry)) 1) k ⌝ }
 {
     let mut seen = Seen {
@@ -124,7 +125,7 @@ pub fn separate(d: &[u8], k: u64) -> Separation
     if d.len() == 0 {
         return Separation::Refused(Refusal::WrongLength);
     }
-    if 1500 < d.len() {
+    if base_layout::DATAGRAM_BOUND < d.len() {
         return Separation::Refused(Refusal::WrongLength);
     }
     if d[0] == 0 {

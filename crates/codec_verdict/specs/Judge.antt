@@ -5,6 +5,7 @@ use mathlib.Core.List.{List}
 use mathlib.Core.Bool.{Bool, true}
 use lib.ListN.{length, getD}
 use lib.Dec.{ltb, eqb}
+use Rattle.base_layout.specs.Layout.{datagramBound}
 use Rattle.base_lists.specs.Seq.{pick, every}
 use Rattle.base_numbers.specs.declared.Malformed.the-variants.{D1, D2, D3}
 use Rattle.base_numbers.specs.declared.Refusal.the-variants.{WrongLength}
@@ -42,7 +43,7 @@ unfoldable pub judgedOf : List ℕ → ℕ → Pdu
 judgedOf w n =
     pick (eqb (word w 0) 0) (blankPdu (Wrong D2))
     (pick (ltb 7 (word w 0)) (blankPdu (Wrong D2))
-    (pick (ltb 1500 (lengthSaid w)) (blankPdu (Refused WrongLength))
+    (pick (ltb datagramBound (lengthSaid w)) (blankPdu (Refused WrongLength))
     (pick (fits w n) (ruled (faultIn n (pduSaid w)) (pduSaid w)) (blankPdu (Wrong D1)))))
 
 -- a PDU that can be written from the source s
@@ -50,7 +51,7 @@ pub record Writable (s : List ℕ) (p : Pdu) : Type 0 where
   pub fit : Fit s p
   pub few : p .count ≤ 16
   pub sound : faultOf p ≡ Sound
-  pub short : length (octetsOf s p) ≤ 1500
+  pub short : length (octetsOf s p) ≤ datagramBound
 
 -- a PDU as the reader leaves one, with its parts in s: its octets are octets, and unused places hold nothing
 pub record AsRead (s : List ℕ) (p : Pdu) : Type 0 where

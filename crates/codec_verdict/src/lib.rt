@@ -3,6 +3,7 @@ ghost use mathlib.Core.Path.{_≡_};
 ghost use Prim.Native.Nat.{_+_, _≤_, _<_, min};
 ghost use lib.ListN.{length};
 ghost use lib.Dec.{ltb};
+ghost use Rattle.base_layout.specs.Layout.{datagramBound};
 ghost use Rattle.codec_said.specs.Said.{word};
 ghost use Rattle.codec_encoding.specs.Write.{kindFault, restFault};
 ghost use Rattle.codec_verdict.specs.Length.{placed, headerSaid, formLength, lengthSaid};
@@ -14,6 +15,11 @@ use base_numbers::Verdict;
 use codec_items::Item;
 use codec_pdu::Kind;
 use codec_pdu::Pdu;
+
+// Lengths are added up to one over the bound.
+const OVER: u64 = DATAGRAM_BOUND + 1;
+
+const DATAGRAM_BOUND: u64 = base_layout::DATAGRAM_BOUND as u64;
 
 const ANY: u64 = 18446744073709551615;
 
@@ -50,7 +56,7 @@ fn capped(a: u64, b: u64) -> u64
     requires { ⌜ a ≤ 1501 ⌝ }
     ensures { λ r. ⌜ r ≡ min (a + b) 1501 ⌝ }
 {
-    if 1501 - a < b { 1501 } else { a + b }
+    if OVER - a < b { OVER } else { a + b }
 }
 
 // How many items there are places for.
@@ -83,7 +89,7 @@ fn form_length(form: u64) -> u64
 // Whether the length that the words say is over 1,500.
 fn over_long(words: &[u64]) -> bool
     requires { ⌜ 88 ≤ length (now words) ⌝ }
-    ensures { λ r. ⌜ r ≡ ltb 1500 (lengthSaid (now (words .entry))) ⌝ }
+    ensures { λ r. ⌜ r ≡ ltb datagramBound (lengthSaid (now (words .entry))) ⌝ }
 {
     let n = places(words[15]);
     let mut sum = capped(header_length(words), words[17]);
@@ -93,7 +99,7 @@ fn over_long(words: &[u64]) -> bool
         sum = capped(capped(sum, form_length(words[at + 1])), words[at + 3]);
         k += 1;
     }
-    1500 < sum
+    DATAGRAM_BOUND < sum
 }
 
 // The longest data of an item, by the word of its form.

@@ -4,6 +4,7 @@ use mathlib.Core.List.{List, _∷_}
 use mathlib.Core.Logic.{_⊎_}
 use lib.ListN.{length}
 use lib.Dec.{ltb}
+use Rattle.base_layout.specs.Layout.{datagramBound}
 use Rattle.base_lists.specs.Seq.{pick, put}
 use Rattle.base_numbers.specs.declared.Refusal.the-variants.{WrongSize}
 use Rattle.codec_pdu.specs.Pdu.{soundOf, blankPdu}
@@ -20,7 +21,7 @@ use Rattle.codec_writing.specs.declared.Written.the-variants as W
 unfoldable pub planOf : List ℕ → ℕ → ℕ → Pdu
 planOf w n room =
     pick (ltb (length w) 88) (blankPdu (Refused WrongSize))
-    (pick (ltb room 1500) (blankPdu (Refused WrongSize))
+    (pick (ltb room datagramBound) (blankPdu (Refused WrongSize))
     (judgedOf w n))
 
 -- the length of a PDU, or why there is none
@@ -62,7 +63,7 @@ written w s o = done (writtenAnswer w s o) (outputAfter w s o)
 
 -- 01: number 1 where a lent slice "has the wrong size": fewer than 88 words, or room for fewer than 1,500 octets
 abbrev pub WrongSizes : List ℕ → ℕ → Type 0
-WrongSizes w room = (length w < 88) ⊎ (room < 1500)
+WrongSizes w room = (length w < 88) ⊎ (room < datagramBound)
 
 -- the C interface: "In this order: 1 (sizes), D2, 11, D1, D5, D6, D3 and D4, D7"
 abbrev pub allReasons : List ℕ → ℕ → ℕ → List Reason

@@ -20,7 +20,7 @@ fn planned(fields: &[u64], bytes: usize, room: usize) -> Pdu
     if fields.len() < 88 {
         return codec_pdu::blank(Kind::Refused(Refusal::WrongSize));
     }
-    if room < 1500 {
+    if room < base_layout::DATAGRAM_BOUND {
         return codec_pdu::blank(Kind::Refused(Refusal::WrongSize));
     }
     codec_verdict::judged(fields, bytes)

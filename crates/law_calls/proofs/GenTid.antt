@@ -6,13 +6,14 @@ use mathlib.Core.List.{List}
 use mathlib.Core.Bool.{Bool, true, false}
 use mathlib.Core.Logic.{_⊎_, inl, inr}
 use lib.ListN.{replicate}
+use Rattle.base_layout.specs.Layout.{recordSize, cachedAt, base, exitBase}
 use Rattle.base_lists.specs.Seq.{put}
 use Rattle.base_lists.proofs.Laws.{true-false}
 use Rattle.base_octets.specs.Octets.{enc}
 use Rattle.base_octets.proofs.Laws.{length-enc}
 use Rattle.table_record.specs.Record.{octetsOf}
 use Rattle.codec_reading.specs.Read.{pduOf}
-use Rattle.table_layout.specs.Table.{base, exitBase, count, genTidOf, putRecord, clearRecord, putCached, putClock}
+use Rattle.table_layout.specs.Table.{count, genTidOf, putRecord, clearRecord, putCached, putClock}
 use Rattle.table_layout.proofs.Apart.{gen-tid-apart}
 use Rattle.table_finding.specs.Finding.{dueOf}
 use Rattle.table_finding.specs.declared.Found.{Found}
@@ -51,7 +52,7 @@ changed-keeps : (t : List ℕ) (place : ℕ) (c : Change) → genTidOf (recordCh
 unfolding recordChanged putRecord clearRecord
 changed-keeps t place Nothing = refl
 changed-keeps t place (Put r) = past t (base place) (octetsOf r) (omega arith)
-changed-keeps t place Clear = past t (base place) (replicate 160 0) (omega arith)
+changed-keeps t place Clear = past t (base place) (replicate recordSize 0) (omega arith)
 
 exit-keeps : (t : List ℕ) (place : ℕ) (stored : Bool) (exit : List ℕ) → genTidOf (exitStored t place stored exit) ≡ genTidOf t
 unfolding exitStored
@@ -61,7 +62,7 @@ exit-keeps t place false exit = refl
 cached-keeps : (t : List ℕ) (peer : ℕ) (c : Header) → genTidOf (cacheChanged t peer c) ≡ genTidOf t
 unfolding cacheChanged putCached
 cached-keeps t peer Kept = refl
-cached-keeps t peer (Set v) = past t (112 + peer * 2) (enc 2 v) (omega arith)
+cached-keeps t peer (Set v) = past t (cachedAt + peer * 2) (enc 2 v) (omega arith)
 
 clock-keeps : (t : List ℕ) (time : ℕ) → genTidOf (putClock t time) ≡ genTidOf t
 unfolding putClock

@@ -4,8 +4,8 @@ use native.Mathlib.Omega.{arith}
 use mathlib.Core.Path.{_≡_, refl, sym, ap, _∙_}
 use mathlib.Core.List.{List, []}
 use lib.ListN.{length}
+use Rattle.base_layout.specs.Layout.{exitBound}
 use Rattle.base_numbers.specs.declared.Refusal.{Refusal}
-use Rattle.table_ranges.specs.Ranges.{exitBound}
 use Rattle.step_plan.specs.declared.Step.{Step}
 use Rattle.step_plan.specs.declared.Plan.the-variants.{Refuse, Go}
 use Rattle.step_outcome.specs.Carry.{Lent, Done, done, outcome}

@@ -6,15 +6,15 @@ use mathlib.Core.List.{List}
 use mathlib.Core.Logic.{inl, inr}
 use mathlib.Core.Bool.{Bool, true, false}
 use lib.ListN.{length, replicate, length-replicate}
+use Rattle.base_layout.specs.Layout.{recordSize, fieldsSize, cachedAt, exitOffset, base, peers, exitBound}
 use Rattle.base_lists.specs.Seq.{put}
 use Rattle.base_octets.specs.Octets.{enc}
 use Rattle.base_octets.proofs.Laws.{Apart, apart-rows, length-enc}
 use Rattle.table_record.specs.Record.{octetsOf}
 use Rattle.table_record.proofs.Back.{length-octets}
-use Rattle.table_layout.specs.Table.{base, settingsOf, rowsOf, cachedOf, recordAt, putRecord, clearRecord, putGenTid, putCached, putClock}
+use Rattle.table_layout.specs.Table.{settingsOf, rowsOf, cachedOf, recordAt, putRecord, clearRecord, putGenTid, putCached, putClock}
 use Rattle.table_layout.proofs.Apart.{settings-apart, rows-apart, cached-apart, record-apart}
 use Rattle.table_layout.proofs.Put.{apart-records, clock-same}
-use Rattle.table_ranges.specs.Ranges.{exitBound, peers}
 use Rattle.table_well_formed.specs.WellFormed.{WellFormed}
 use Rattle.step_commit.specs.declared.Change.{Change}
 use Rattle.step_commit.specs.declared.Change.the-variants.{Nothing, Put, Clear}
@@ -45,8 +45,8 @@ module _ (place peer : ℕ) where
   }
 
   -- a store that meets none of these
-  stored : (t : List ℕ) (b : ℕ) (w : List ℕ) → ((j : ℕ) → (j ≡ place → ⊥) → Apart (base j) 20 b (length w)) → Apart 10 82 b (length w)
-      → ((p : ℕ) → p < peers → (p ≡ peer → ⊥) → Apart (112 + p * 2) 2 b (length w)) → Same place peer t (put t b w)
+  stored : (t : List ℕ) (b : ℕ) (w : List ℕ) → ((j : ℕ) → (j ≡ place → ⊥) → Apart (base j) fieldsSize b (length w)) → Apart 10 82 b (length w)
+      → ((p : ℕ) → p < peers → (p ≡ peer → ⊥) → Apart (cachedAt + p * 2) 2 b (length w)) → Same place peer t (put t b w)
   stored t b w r s c = record {
     other-records = λ j d. record-apart t b w j (r j d);
     settings = settings-apart t b w s;
@@ -54,15 +54,15 @@ module _ (place peer : ℕ) where
     other-peers = λ p h d. cached-apart t b w p (c p h d);
   }
 
-  in-record : (t : List ℕ) (k : ℕ) (w : List ℕ) → k + length w ≤ 160 → Same place peer t (put t (base place + k) w)
+  in-record : (t : List ℕ) (k : ℕ) (w : List ℕ) → k + length w ≤ recordSize → Same place peer t (put t (base place + k) w)
   in-record t k w h =
-      stored t (base place + k) w (λ j d. first j (apart-records j place 0 20 k (length w) d (omega arith) h)) (inl (omega arith)) (λ p l d. inl (omega arith))
+      stored t (base place + k) w (λ j d. first j (apart-records j place 0 fieldsSize k (length w) d (omega arith) h)) (inl (omega arith)) (λ p l d. inl (omega arith))
     where
-      first : (j : ℕ) → Apart (base j + 0) 20 (base place + k) (length w) → Apart (base j) 20 (base place + k) (length w)
+      first : (j : ℕ) → Apart (base j + 0) fieldsSize (base place + k) (length w) → Apart (base j) fieldsSize (base place + k) (length w)
       first j (inl l) = inl (omega arith)
       first j (inr l) = inr (omega arith)
 
-  of-record : (t : List ℕ) (w : List ℕ) → length w ≤ 160 → Same place peer t (put t (base place) w)
+  of-record : (t : List ℕ) (w : List ℕ) → length w ≤ recordSize → Same place peer t (put t (base place) w)
   of-record t w h =
       let e : base place + 0 ≡ base place = omega arith in
       rw e at (in-record t 0 w (omega arith))
@@ -71,11 +71,11 @@ module _ (place peer : ℕ) where
   unfolding recordChanged putRecord clearRecord
   changed t Nothing = itself t
   changed t (Put r) = of-record t (octetsOf r) (omega (arith, length-octets r))
-  changed t Clear = of-record t (replicate 160 0) (omega (arith, length-replicate {A = ℕ} 160 0))
+  changed t Clear = of-record t (replicate recordSize 0) (omega (arith, length-replicate {A = ℕ} recordSize 0))
 
   exit-same : (t : List ℕ) (b : Bool) (exit : List ℕ) → length exit ≤ exitBound → Same place peer t (exitStored t place b exit)
   unfolding exitStored
-  exit-same t true exit h = in-record t 32 exit (omega arith)
+  exit-same t true exit h = in-record t exitOffset exit (omega arith)
   exit-same t false exit h = itself t
 
   gen-tid-same : (t : List ℕ) (c : Header) → Same place peer t (genTidChanged t c)
@@ -90,7 +90,7 @@ module _ (place peer : ℕ) where
   cached-same t Kept l = itself t
   cached-same t (Set v) l =
       let n : length (enc 2 v) ≡ 2 = length-enc 2 v in
-      stored t (112 + peer * 2) (enc 2 v) (λ j d. inr (omega arith)) (inl (omega arith)) (λ p h d. rw n (apart-rows 112 2 p peer d))
+      stored t (cachedAt + peer * 2) (enc 2 v) (λ j d. inr (omega arith)) (inl (omega arith)) (λ p h d. rw n (apart-rows cachedAt 2 p peer d))
 
   clock-other : (t : List ℕ) (v : ℕ) → Same place peer t (putClock t v)
   unfolding putClock

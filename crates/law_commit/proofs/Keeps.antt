@@ -5,11 +5,10 @@ use mathlib.Core.Path.{_≡_, refl}
 use mathlib.Core.List.{List}
 use mathlib.Core.Bool.{Bool, true, false}
 use lib.ListN.{length}
+use Rattle.base_layout.specs.Layout.{recordSize, base, tidBound, cachedBound, peers, exitBound}
 use Rattle.base_lists.proofs.Laws.{true-false}
-use Rattle.table_layout.specs.Table.{recordSize, base, count, settingsOf, recordAt, putRecord}
+use Rattle.table_layout.specs.Table.{count, settingsOf, recordAt, putRecord}
 use Rattle.table_layout.proofs.Put.{record-same}
-use Rattle.table_ranges.specs.Ranges.{tidBound, exitBound, peers}
-use Rattle.table_header_ok.specs.Header.{cachedBound}
 use Rattle.table_record_ok.specs.OneRecord.{Live}
 use Rattle.table_well_formed.specs.WellFormed.{WellFormed}
 use Rattle.law_formed_kept.proofs.InHeader.{clock-keeps, gen-tid-keeps, cached-keeps}

@@ -4,10 +4,9 @@ use mathlib.Core.Path.{_≡_}
 use mathlib.Core.List.{List}
 use mathlib.Core.Bool.{Bool, true, false}
 use lib.ListN.{length}
+use Rattle.base_layout.specs.Layout.{timeBound, tidBound, cachedBound, peers, exitBound}
 use Rattle.table_record.specs.declared.Record.{Record}
 use Rattle.table_layout.specs.Table.{count, settingsOf, rowsOf, cachedOf, recordAt, clockOf}
-use Rattle.table_ranges.specs.Ranges.{timeBound, tidBound, exitBound, peers}
-use Rattle.table_header_ok.specs.Header.{cachedBound}
 use Rattle.table_record_ok.specs.OneRecord.{InRange}
 use Rattle.law_formed_kept.specs.Kept.{Unused}
 use Rattle.step_commit.specs.declared.Change.{Change}

@@ -6,13 +6,13 @@ use mathlib.Core.Bool.{Bool, true, false}
 use mathlib.Core.List.{List}
 use mathlib.Core.Logic.{_⊎_, inl, inr}
 use lib.ListN.{length}
+use Rattle.base_layout.specs.Layout.{headerSize, recordSize, cellSize}
 use Rattle.base_lists.specs.Seq.{put, part}
 use Rattle.base_lists.proofs.Laws.{length-part}
 use Rattle.base_octets.proofs.Laws.{two-sides}
 use Rattle.table_record.specs.declared.Record.{Record}
 use Rattle.table_record.specs.declared.State.the-variants.{Free}
-use Rattle.table_ranges.specs.Ranges.{cellSize}
-use Rattle.table_layout.specs.Table.{headerSize, recordSize, count, recordAt}
+use Rattle.table_layout.specs.Table.{count, recordAt}
 use Rattle.step_commit.specs.declared.Change.the-variants.{Nothing, Put, Clear}
 use Rattle.step_plan.specs.declared.Part.{Part}
 use Rattle.step_plan.specs.declared.Step.{Step}

@@ -6,16 +6,16 @@ use mathlib.Core.Bool.{Bool, true, false}
 use mathlib.Core.List.{List}
 use mathlib.Core.Logic.{inl, inr}
 use lib.ListN.{length, getD, replicate, length-replicate}
+use Rattle.base_layout.specs.Layout.{recordSize, cachedAt, base, exitBase, peers}
 use Rattle.base_lists.specs.Seq.{put}
 use Rattle.base_octets.specs.Octets.{gets, enc}
 use Rattle.base_octets.proofs.Laws.{getD-same, length-enc}
 use Rattle.table_record.specs.Record.{stateOf, decoded}
 use Rattle.table_record.specs.declared.Record.{Record}
 use Rattle.table_record.specs.declared.State.the-variants.{Free}
-use Rattle.table_layout.specs.Table.{base, recordSize, settingsOf, recordAt, clearRecord, putGenTid, putCached, putClock}
+use Rattle.table_layout.specs.Table.{settingsOf, recordAt, clearRecord, putGenTid, putCached, putClock}
 use Rattle.table_layout.proofs.Apart.{record-apart}
 use Rattle.table_layout.proofs.Put.{record-same}
-use Rattle.table_ranges.specs.Ranges.{peers}
 use Rattle.table_well_formed.specs.WellFormed.{WellFormed}
 use Rattle.law_formed_kept.proofs.Keeps.{range-fits}
 use Rattle.step_commit.specs.Commit.{recordChanged, exitStored, genTidChanged, cacheChanged, tableAfter}
@@ -29,7 +29,7 @@ use Rattle.law_commit.specs.Allowed.{ChangeOk, Allowed}
 module _ (i : ℕ) where
   exit-leaves : (t : List ℕ) (b : Bool) (exit : List ℕ) → recordAt (exitStored t i b exit) i ≡ recordAt t i
   unfolding exitStored
-  exit-leaves t true exit = record-apart t (base i + 32) exit i (inl (omega arith))
+  exit-leaves t true exit = record-apart t (exitBase i) exit i (inl (omega arith))
   exit-leaves t false exit = refl
 
   gen-tid-leaves : (t : List ℕ) (c : Header) → recordAt (genTidChanged t c) i ≡ recordAt t i
@@ -44,7 +44,7 @@ module _ (i : ℕ) where
   cached-leaves t peer Kept h = refl
   cached-leaves t peer (Set v) h =
       let n : length (enc 2 v) ≡ 2 = length-enc 2 v in
-      record-apart t (112 + peer * 2) (enc 2 v) i (inr (omega arith))
+      record-apart t (cachedAt + peer * 2) (enc 2 v) i (inr (omega arith))
 
   clock-leaves : (t : List ℕ) (v : ℕ) → recordAt (putClock t v) i ≡ recordAt t i
   unfolding putClock
@@ -56,8 +56,8 @@ module _ (i : ℕ) where
 cleared : (t : List ℕ) (i : ℕ) → base i + recordSize ≤ length t → recordAt (clearRecord t i) i .state ≡ Free
 unfolding recordAt decoded gets clearRecord stateOf
 cleared t i h =
-    let n : length {A = ℕ} (replicate 160 0) ≡ 160 = length-replicate {A = ℕ} 160 0 in
-    let e : getD (put t (base i) (replicate 160 0)) (base i + 0) 0 ≡ 0 = getD-same (replicate 160 0) t (base i) 0 (omega arith) (omega arith) in
+    let n : length {A = ℕ} (replicate recordSize 0) ≡ recordSize = length-replicate {A = ℕ} recordSize 0 in
+    let e : getD (put t (base i) (replicate recordSize 0)) (base i + 0) 0 ≡ 0 = getD-same (replicate recordSize 0) t (base i) 0 (omega arith) (omega arith) in
     let z : base i + 0 ≡ base i = omega arith in
     ap stateOf (rw z at e)
 

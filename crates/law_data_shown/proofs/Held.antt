@@ -7,6 +7,7 @@ use mathlib.Core.Bool.{Bool, true, false}
 use mathlib.Core.List.{List, _∷_}
 use mathlib.Core.Logic.{_⊎_, inl, inr}
 use lib.Dec.{ltb, eqb}
+use Rattle.base_layout.specs.Layout.{cellSize}
 use Rattle.base_lists.specs.Seq.{part}
 use Rattle.base_lists.proofs.Laws.{true-false}
 use Rattle.table_record.specs.Record.{roleOf, stateNumber}
@@ -16,7 +17,6 @@ use Rattle.table_record.specs.declared.State.the-variants as State
 use Rattle.table_record.specs.declared.Record.{Record}
 use Rattle.codec_pdu.specs.declared.Pdu.{Pdu}
 use Rattle.codec_reading.specs.Read.{pduOf}
-use Rattle.table_ranges.specs.Ranges.{cellSize}
 use Rattle.table_layout.specs.Table.{count, recordAt}
 use Rattle.table_finding.proofs.Tests.{Called}
 use Rattle.law_formed_kept.proofs.InRecord.{equal-or}

@@ -6,12 +6,12 @@ use mathlib.Core.Bool.{Bool, true, false}
 use mathlib.Core.List.{List, _∷_}
 use mathlib.Core.Logic.{_⊎_, inl, inr}
 use lib.ListN.{length}
+use Rattle.base_layout.specs.Layout.{cellSize}
 use Rattle.base_lists.specs.Seq.{part}
 use Rattle.base_lists.proofs.Laws.{true-false}
 use Rattle.table_record.specs.declared.Record.{Record}
 use Rattle.codec_pdu.specs.declared.Pdu.{Pdu}
 use Rattle.codec_reading.specs.Read.{pduOf}
-use Rattle.table_ranges.specs.Ranges.{cellSize}
 use Rattle.table_layout.specs.Table.{recordAt}
 use Rattle.table_layout.specs.declared.Settings.{Settings}
 use Rattle.law_places.proofs.Places.{live-range}

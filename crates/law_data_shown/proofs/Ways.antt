@@ -5,6 +5,7 @@ use mathlib.Core.Path.{_≡_, refl, _∙_}
 use mathlib.Core.Bool.{Bool, false, _||_}
 use mathlib.Core.Logic.{_⊎_, inl, inr}
 use lib.Dec.{eqb}
+use Rattle.base_layout.specs.Layout.{cellSize}
 use Rattle.codec_reading.specs.Read.{pduOf}
 use Rattle.row_events.specs.Events.{eventNumber}
 use Rattle.row_events.specs.declared.Event.{Event}
@@ -25,7 +26,6 @@ use Rattle.call_receive.proofs.Ways.{Unmatched, Taken, ways}
 use Rattle.step_outcome.specs.Carry.{Lent}
 use Rattle.law_calls.specs.Promise.{Call, planFor}
 use lib.ListN.{length}
-use Rattle.table_ranges.specs.Ranges.{cellSize}
 use Rattle.table_layout.specs.Table.{count, genTidOf, recordAt}
 use Rattle.table_tids.specs.Tids.{nextTid}
 use Rattle.table_finding.specs.Finding.{dueOf}

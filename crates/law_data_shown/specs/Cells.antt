@@ -4,13 +4,13 @@ use mathlib.Core.Path.{_≡_}
 use mathlib.Core.Bool.{Bool, true, _||_}
 use mathlib.Core.List.{List}
 use lib.Dec.{eqb}
+use Rattle.base_layout.specs.Layout.{cellSize}
 use Rattle.base_lists.specs.Seq.{part}
 use Rattle.table_record.specs.Record.{stateNumber}
 use Rattle.table_record.specs.declared.Role.the-variants.{Responder}
 use Rattle.table_record.specs.declared.State.{State}
 use Rattle.table_record.specs.declared.State.the-variants.{RTidokWait1, RTidokWait2}
 use Rattle.table_layout.specs.Table.{count, recordAt}
-use Rattle.table_ranges.specs.Ranges.{cellSize}
 use Rattle.law_history.specs.Trace.{Entry}
 use Rattle.law_history.specs.Tally.{Name}
 use Rattle.law_history.specs.Demand.{openedData}

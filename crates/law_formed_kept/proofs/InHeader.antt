@@ -5,15 +5,15 @@ use mathlib.Core.Logic.{_⊎_, inl, inr}
 use Prim.Native.Nat.{ℕ, _+_, _*_, _≤_, _<_}
 use native.Mathlib.Omega.{arith}
 use lib.ListN.{length}
+use Rattle.base_layout.specs.Layout.{headerSize, cachedAt, headerSpareAt, timeBound, tidBound, cachedBound, peers}
 use Rattle.base_lists.specs.Seq.{put}
 use Rattle.base_lists.proofs.Laws.{length-put}
 use Rattle.base_octets.specs.Octets.{enc}
 use Rattle.base_octets.proofs.Laws.{Apart, getD-before, getD-after, apart-rows, length-enc}
-use Rattle.table_layout.specs.Table.{headerSize, settingsOf, cachedOf, recordAt, clockOf, genTidOf, putClock, putGenTid, putCached}
+use Rattle.table_layout.specs.Table.{settingsOf, cachedOf, recordAt, clockOf, genTidOf, putClock, putGenTid, putCached}
 use Rattle.table_layout.proofs.Apart.{clock-apart, gen-tid-apart, settings-apart, rows-apart, cached-apart, record-apart}
 use Rattle.table_layout.proofs.Put.{clock-same, gen-tid-same, cached-same}
-use Rattle.table_ranges.specs.Ranges.{timeBound, tidBound, peers}
-use Rattle.table_header_ok.specs.Header.{HeaderOk, cachedBound, spareStart}
+use Rattle.table_header_ok.specs.Header.{HeaderOk}
 use Rattle.table_well_formed.specs.WellFormed.{WellFormed}
 use Rattle.law_formed_kept.proofs.InRecord.{equal-or, sized-same, record-same}
 
@@ -41,7 +41,7 @@ module _ (t : List ℕ) (at : ℕ) (w : List ℕ) where
     clock = c;
     gen-tid = g;
     settings = rw s (f .header .settings);
-    spare = λ k l. getD-after w t at (spareStart + k) (omega arith) ∙ f .header .spare k l;
+    spare = λ k l. getD-after w t at (headerSpareAt + k) (omega arith) ∙ f .header .spare k l;
     rows = rw (rows-apart t at w (inr (omega arith))) (f .header .rows);
     cached = λ p l. rw (cached-apart t at w p (inr (omega arith))) (f .header .cached p l);
   }) where
@@ -49,12 +49,12 @@ module _ (t : List ℕ) (at : ℕ) (w : List ℕ) where
     s = settings-apart t at w (inr (omega arith))
 
   -- after the spare octets lie the cached TIDs
-  after-spare : 112 ≤ at → at + length w ≤ headerSize → WellFormed t → ((p : ℕ) → p < peers → cachedOf after p ≤ cachedBound) → WellFormed after
+  after-spare : cachedAt ≤ at → at + length w ≤ headerSize → WellFormed t → ((p : ℕ) → p < peers → cachedOf after p ≤ cachedBound) → WellFormed after
   after-spare low high f c = header-keeps high f s (record {
     clock = rw (clock-apart t at w (omega arith)) (f .header .clock);
     gen-tid = rw (gen-tid-apart t at w (inl (omega arith))) (f .header .gen-tid);
     settings = rw s (f .header .settings);
-    spare = λ k l. getD-before w t at (spareStart + k) (omega arith) ∙ f .header .spare k l;
+    spare = λ k l. getD-before w t at (headerSpareAt + k) (omega arith) ∙ f .header .spare k l;
     rows = rw (rows-apart t at w (inl (omega arith))) (f .header .rows);
     cached = c;
   }) where
@@ -79,12 +79,12 @@ pub cached-keeps : (t : List ℕ) (p v : ℕ) → WellFormed t → p < peers →
 unfolding putCached
 cached-keeps t p v f l b =
     let n : length (enc 2 v) ≡ 2 = length-enc 2 v in
-    after-spare t (112 + p * 2) (enc 2 v) (omega arith) (omega arith) f (λ q m. go q m (equal-or q p)) where
-      other : (q : ℕ) → Apart (112 + q * 2) 2 (112 + p * 2) 2 → Apart (112 + q * 2) 2 (112 + p * 2) (length (enc 2 v))
+    after-spare t (cachedAt + p * 2) (enc 2 v) (omega arith) (omega arith) f (λ q m. go q m (equal-or q p)) where
+      other : (q : ℕ) → Apart (cachedAt + q * 2) 2 (cachedAt + p * 2) 2 → Apart (cachedAt + q * 2) 2 (cachedAt + p * 2) (length (enc 2 v))
       other q a = rw (length-enc 2 v) a
 
-      go : (q : ℕ) → q < peers → (q ≡ p) ⊎ (q ≡ p → ⊥) → cachedOf (put t (112 + p * 2) (enc 2 v)) q ≤ cachedBound
+      go : (q : ℕ) → q < peers → (q ≡ p) ⊎ (q ≡ p → ⊥) → cachedOf (put t (cachedAt + p * 2) (enc 2 v)) q ≤ cachedBound
       go q m (inl x) =
-          let e : cachedOf (put t (112 + p * 2) (enc 2 v)) p ≡ v = cached-same t p v (omega (arith, f .sized .whole)) l (omega arith) in
+          let e : cachedOf (put t (cachedAt + p * 2) (enc 2 v)) p ≡ v = cached-same t p v (omega (arith, f .sized .whole)) l (omega arith) in
           rw (x, e) b
-      go q m (inr x) = rw (cached-apart t (112 + p * 2) (enc 2 v) q (other q (apart-rows 112 2 q p x))) (f .header .cached q m)
+      go q m (inr x) = rw (cached-apart t (cachedAt + p * 2) (enc 2 v) q (other q (apart-rows cachedAt 2 q p x))) (f .header .cached q m)

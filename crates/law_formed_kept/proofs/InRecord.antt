@@ -8,10 +8,11 @@ use native.Mathlib.Omega.{arith}
 use lib.ListN.{length, getD}
 use lib.Dec.{eqb}
 use borrow.Author.Tests.{eqb-true, eqb-false}
+use Rattle.base_layout.specs.Layout.{headerSize, recordSize, fieldsSize, base, spareBase}
 use Rattle.base_lists.specs.Seq.{put}
 use Rattle.base_lists.proofs.Laws.{told, length-put}
 use Rattle.base_octets.proofs.Laws.{Apart, getD-before, getD-after, apart-rows}
-use Rattle.table_layout.specs.Table.{headerSize, recordSize, base, count, settingsOf, recordAt}
+use Rattle.table_layout.specs.Table.{count, settingsOf, recordAt}
 use Rattle.table_layout.proofs.Apart.{clock-apart, gen-tid-apart, settings-apart, rows-apart, cached-apart, record-apart}
 use Rattle.table_header_ok.specs.Header.{HeaderOk}
 use Rattle.table_record_ok.specs.OneRecord.{Live, LiveOk, FreeOk, RecordOk}
@@ -37,7 +38,7 @@ record-same t u j s r o (inl f) = inl (λ k l. o (base j + k) (omega arith) (ome
 record-same t u j s r o (inr f) = inr (record {
   range = rw (s, r) (f .range);
   flags = rw (o (base j + 6) (omega arith) (omega arith)) (f .flags);
-  spare = λ k l. o (base j + 20 + k) (omega arith) (omega arith) ∙ f .spare k l;
+  spare = λ k l. o (spareBase j + k) (omega arith) (omega arith) ∙ f .spare k l;
 })
 
 module _ (t : List ℕ) (i at : ℕ) (w : List ℕ) (low : base i ≤ at) (high : at + length w ≤ base i + recordSize) where
@@ -65,7 +66,7 @@ module _ (t : List ℕ) (i at : ℕ) (w : List ℕ) (low : base i ≤ at) (high 
 
   fields-stand : (j : ℕ) → (j ≡ i → ⊥) → recordAt after j ≡ recordAt t j
   fields-stand j d = record-apart t at w j (go (apart-rows headerSize recordSize j i d)) where
-    go : Apart (base j) recordSize (base i) recordSize → Apart (base j) 20 at (length w)
+    go : Apart (base j) recordSize (base i) recordSize → Apart (base j) fieldsSize at (length w)
     go (inl h) = inl (omega arith)
     go (inr h) = inr (omega arith)
 

@@ -5,18 +5,19 @@ use mathlib.Core.Logic.{inl, inr}
 use Prim.Native.Nat.{ℕ, _+_, _≤_, _<_}
 use native.Mathlib.Omega.{arith}
 use lib.ListN.{length, getD, replicate, getD-replicate}
+use Rattle.base_layout.specs.Layout.{recordSize, fieldsSize, spareSize, spareOffset, base, flagsAt, spareBase, exitBase, exitBound}
 use Rattle.base_lists.specs.Seq.{put}
 use Rattle.base_octets.specs.Octets.{enc}
 use Rattle.base_octets.proofs.Laws.{getD-before, getD-after, getD-same}
 use Rattle.table_record.specs.Record.{octetsOf, flagsOf}
 use Rattle.table_record.specs.declared.Record.{Record}
 use Rattle.table_record.proofs.Back.{Fits, length-octets, flags-small}
-use Rattle.table_layout.specs.Table.{recordSize, base, spareBase, exitBase, count, settingsOf, recordAt, putRecord, clearRecord}
+use Rattle.table_layout.specs.Table.{count, settingsOf, recordAt, putRecord, clearRecord}
 use Rattle.table_layout.specs.declared.Settings.{Settings}
 use Rattle.table_layout.proofs.Apart.{record-apart}
 use Rattle.table_layout.proofs.Put.{record-same}
-use Rattle.table_ranges.specs.Ranges.{exitBound, Zeros}
-use Rattle.table_record_ok.specs.OneRecord.{Live, InRange, LiveOk, RecordOk, flagsAt, spareSize}
+use Rattle.table_ranges.specs.Ranges.{Zeros}
+use Rattle.table_record_ok.specs.OneRecord.{Live, InRange, LiveOk, RecordOk}
 use Rattle.table_record_ok.proofs.Meaning.{live-of}
 use Rattle.table_well_formed.specs.WellFormed.{WellFormed}
 use Rattle.table_well_formed.proofs.Lengths.{room}
@@ -31,8 +32,8 @@ range-fits s r h = record { tid = omega (arith, h .bounds); deadline = omega (ar
 -- the spare octets of any record of a well-formed table are zero
 spare-of : (t : List ℕ) (i : ℕ) → RecordOk t (settingsOf t) i → Zeros t (spareBase i) spareSize
 spare-of t i (inl f) k l =
-    let e : spareBase i + k ≡ base i + (20 + k) = omega arith in
-    rw e (f (20 + k) (omega arith))
+    let e : spareBase i + k ≡ base i + (spareOffset + k) = omega arith in
+    rw e (f (spareOffset + k) (omega arith))
 spare-of t i (inr f) k l = f .spare k l
 
 flags-octet : (r : Record) → getD (octetsOf r) 6 0 ≡ flagsOf r
@@ -48,7 +49,7 @@ own-name t i r f l v n j m d q s =
 pub put-keeps : (t : List ℕ) (i : ℕ) (r : Record) → WellFormed t → i < count t → InRange (settingsOf t) r → Unused t i r → WellFormed (putRecord t i r)
 unfolding putRecord
 put-keeps t i r f l g u =
-    let n : length (octetsOf r) ≡ 20 = length-octets r in
+    let n : length (octetsOf r) ≡ fieldsSize = length-octets r in
     let long : base i + recordSize ≤ length t = room t (f .sized) i l in
     let e : recordAt (put t (base i) (octetsOf r)) i ≡ r = record-same t i r long (range-fits (settingsOf t) r g) in
     let b : getD (put t (base i) (octetsOf r)) (flagsAt i) 0 ≡ flagsOf r = getD-same (octetsOf r) t (base i) 6 (omega arith) (omega arith) ∙ flags-octet r in

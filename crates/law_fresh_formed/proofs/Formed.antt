@@ -5,10 +5,11 @@ use mathlib.Core.Path.{_≡_, sym, ap, _∙_}
 use mathlib.Core.List.{List, [], _∷_}
 use mathlib.Core.Logic.{inl}
 use lib.ListN.{length}
+use Rattle.base_layout.specs.Layout.{base}
 use Rattle.base_lists.specs.Seq.{tab}
 use Rattle.base_lists.proofs.Laws.{getD-tab}
 use Rattle.table_record.specs.Record.{stateNumber}
-use Rattle.table_layout.specs.Table.{base, count, settingsOf, recordAt}
+use Rattle.table_layout.specs.Table.{count, settingsOf, recordAt}
 use Rattle.table_ranges.specs.Ranges.{Interval}
 use Rattle.table_header_ok.specs.Header.{SettingsOk, RowsOk, HeaderOk}
 use Rattle.table_record_ok.specs.OneRecord.{Live}

@@ -4,6 +4,7 @@ use mathlib.Core.Bool.{Bool, true, false}
 use mathlib.Core.List.{List, [], _∷_}
 use lib.ListN.{getD}
 use lib.Dec.{ltb, eqb}
+use Rattle.base_layout.specs.Layout.{tidCount}
 use Rattle.base_lists.specs.Seq.{pick, bit, part}
 use Rattle.table_record.specs.Record.{roleNumber}
 use Rattle.table_record.specs.declared.Role.{Role}
@@ -71,11 +72,11 @@ ofType Responder type first =
 
 -- who sent octets: "The top bit is 0 towards the responder, 1 towards the initiator"
 abbrev pub senderRole : List ℕ → Role
-senderRole s = pick (ltb (tidOf s) 32768) Initiator Responder
+senderRole s = pick (ltb (tidOf s) tidCount) Initiator Responder
 
 -- what octets sent to a peer add under a name, which the low 15 TID bits give
 unfoldable pub ofSent : Name → ℕ → List ℕ → Counts
-ofSent n peer s = pick (isNamed n (senderRole s) peer (tidOf s % 32768)) (ofType (n .role) (typeOf s) (getD s 0 0)) none
+ofSent n peer s = pick (isNamed n (senderRole s) peer (tidOf s % tidCount)) (ofType (n .role) (typeOf s) (getD s 0 0)) none
 
 -- what an answer shows under a name
 abbrev pub ofAnswer : Name → Answer → Counts

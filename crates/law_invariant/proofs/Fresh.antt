@@ -4,10 +4,10 @@ use native.Mathlib.Omega.{arith}
 use mathlib.Core.Path.{_≡_, refl, ap}
 use mathlib.Core.List.{List, []}
 use lib.ListN.{length, getD}
+use Rattle.base_layout.specs.Layout.{cellSize}
 use Rattle.table_record.specs.Record.{stateNumber}
 use Rattle.table_layout.specs.Table.{count, settingsOf}
 use Rattle.table_layout.specs.declared.Settings.{Settings}
-use Rattle.table_ranges.specs.Ranges.{cellSize}
 use Rattle.law_counting.specs.Counting.{none, Limits}
 use Rattle.table_fresh.specs.Fresh.{freshAnswer, tableAfter}
 use Rattle.table_fresh.specs.declared.Fresh.the-variants.{Made}

@@ -3,9 +3,9 @@ use Prim.Native.Nat.{ℕ, _*_, _≤_, _<_}
 use mathlib.Core.Path.{_≡_}
 use mathlib.Core.List.{List}
 use lib.ListN.{length}
+use Rattle.base_layout.specs.Layout.{cellSize, outputLeast}
 use Rattle.base_numbers.specs.declared.Refusal.the-variants.{WrongSize}
 use Rattle.table_layout.specs.Table.{count, recordAt, settingsOf}
-use Rattle.table_ranges.specs.Ranges.{cellSize, outputLeast}
 use Rattle.table_record_ok.specs.OneRecord.{Live}
 use Rattle.table_well_formed.specs.WellFormed.{WellFormed}
 use Rattle.law_counting.specs.Counting.{Fits, Limits}

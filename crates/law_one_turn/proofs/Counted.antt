@@ -6,9 +6,9 @@ use mathlib.Core.Bool.{Bool, true, false}
 use mathlib.Core.List.{List, []}
 use lib.ListN.{length, drop}
 use lib.Seq.{take-append-seam}
+use Rattle.base_layout.specs.Layout.{tidBound, outputLeast}
 use Rattle.base_lists.specs.Seq.{pick, part, put}
 use Rattle.base_lists.proofs.Laws.{put-front}
-use Rattle.table_ranges.specs.Ranges.{tidBound, outputLeast}
 use Rattle.row_columns.specs.declared.Send.{Send}
 use Rattle.row_columns.specs.declared.Indication.{Indication}
 use Rattle.law_rows.specs.Shown.{SendProper}

@@ -6,11 +6,11 @@ use mathlib.Core.Bool.{Bool, true, false}
 use mathlib.Core.List.{List}
 use lib.Dec.{eqb}
 use borrow.Author.Tests.{ne-eqb}
+use Rattle.base_layout.specs.Layout.{tidBound}
 use Rattle.base_lists.specs.Seq.{pick}
 use Rattle.table_record.specs.Record.{stateNumber}
 use Rattle.table_record.specs.declared.State.the-variants.{Free}
 use Rattle.table_layout.specs.Table.{count, settingsOf, rowsOf, recordAt}
-use Rattle.table_ranges.specs.Ranges.{tidBound}
 use Rattle.table_record_ok.specs.OneRecord.{Live}
 use Rattle.table_finding.proofs.Tests.{Called}
 use Rattle.table_finding.proofs.Meaning.{NoneOf}

@@ -3,8 +3,8 @@ use Prim.Native.Nat.{ℕ, _≤_}
 use mathlib.Core.Path.{_≡_, refl, ap, _∙_}
 use mathlib.Core.Bool.{Bool, false}
 use mathlib.Core.List.{[]}
+use Rattle.base_layout.specs.Layout.{tidBound}
 use Rattle.base_lists.specs.Seq.{pick}
-use Rattle.table_ranges.specs.Ranges.{tidBound}
 use Rattle.row_events.specs.declared.Opening.{Opening}
 use Rattle.row_columns.specs.declared.Indication.{Indication}
 use Rattle.row_columns.specs.declared.Indication.the-variants as Indication

@@ -6,16 +6,16 @@ use mathlib.Core.Bool.{Bool, true, false}
 use mathlib.Core.List.{List}
 use mathlib.Core.Logic.{_⊎_, inl, inr}
 use lib.ListN.{length, getD, replicate, length-replicate}
+use Rattle.base_layout.specs.Layout.{recordSize, cachedAt, base, exitBase, peers}
 use Rattle.base_lists.specs.Seq.{put}
 use Rattle.base_octets.specs.Octets.{enc}
 use Rattle.base_octets.proofs.Laws.{length-enc, getD-same}
 use Rattle.table_record.specs.Record.{stateOf}
 use Rattle.table_record.specs.declared.State.the-variants.{Free}
 use Rattle.table_record.specs.declared.Record.{Record}
-use Rattle.table_layout.specs.Table.{recordSize, base, exitBase, count, settingsOf, recordAt, clearRecord, putGenTid, putCached, putClock}
+use Rattle.table_layout.specs.Table.{count, settingsOf, recordAt, clearRecord, putGenTid, putCached, putClock}
 use Rattle.table_layout.proofs.Apart.{record-apart}
 use Rattle.table_layout.proofs.Put.{record-same}
-use Rattle.table_ranges.specs.Ranges.{peers}
 use Rattle.table_record_ok.proofs.States.{state-octet}
 use Rattle.table_well_formed.specs.WellFormed.{WellFormed}
 use Rattle.law_formed_kept.proofs.InRecord.{equal-or}
@@ -42,7 +42,7 @@ gen-tid-apart t place (Set v) = let n : length (enc 2 v) ≡ 2 = length-enc 2 v 
 cached-apart : (t : List ℕ) (place peer : ℕ) (c : Header) → peer < peers → recordAt (cacheChanged t peer c) place ≡ recordAt t place
 unfolding cacheChanged putCached
 cached-apart t place peer Kept h = refl
-cached-apart t place peer (Set v) h = let n : length (enc 2 v) ≡ 2 = length-enc 2 v in record-apart t (112 + peer * 2) (enc 2 v) place (inr (omega arith))
+cached-apart t place peer (Set v) h = let n : length (enc 2 v) ≡ 2 = length-enc 2 v in record-apart t (cachedAt + peer * 2) (enc 2 v) place (inr (omega arith))
 
 clock-apart : (t : List ℕ) (place v : ℕ) → recordAt (putClock t v) place ≡ recordAt t place
 unfolding putClock
@@ -68,8 +68,8 @@ module _ (t : List ℕ) (c : Changes) (exit : List ℕ) (w : WellFormed t) (ok :
   pub is-free : c .change ≡ Clear → recordAt after (c .place) .state ≡ Free
   unfolding recordChanged clearRecord stateOf
   is-free e =
-      let z : List ℕ = replicate 160 0 in
-      let n : length z ≡ 160 = length-replicate {A = ℕ} 160 0 in
+      let z : List ℕ = replicate recordSize 0 in
+      let n : length z ≡ recordSize = length-replicate {A = ℕ} recordSize 0 in
       let d : base (c .place) + 0 ≡ base (c .place) = omega arith in
       let octet : getD (put t (base (c .place)) z) (base (c .place)) 0 ≡ 0 = rw d at (getD-same z t (base (c .place)) 0 (omega (arith, room)) (omega arith)) in
       ap (λ (r : Record). r .state) at-place

@@ -8,12 +8,12 @@ use mathlib.Core.Logic.{_⊎_, inl, inr}
 use lib.ListN.{length}
 use lib.Dec.{eqb}
 use borrow.Author.Tests.{eqb-false}
+use Rattle.base_layout.specs.Layout.{peers}
 use Rattle.base_lists.specs.Seq.{pick}
 use Rattle.table_record.specs.declared.State.the-variants.{Free}
 use Rattle.table_record.specs.declared.Role.the-variants.{Initiator}
 use Rattle.table_layout.specs.Table.{count, genTidOf, recordAt}
 use Rattle.table_tids.specs.Tids.{nextTid}
-use Rattle.table_ranges.specs.Ranges.{peers}
 use Rattle.table_record_ok.specs.OneRecord.{Live}
 use Rattle.table_finding.proofs.Tests.{Called}
 use Rattle.table_finding.proofs.Meaning.{NoneOf}

@@ -6,12 +6,12 @@ use mathlib.Core.Bool.{Bool, true, false}
 use mathlib.Core.List.{List, []}
 use lib.Dec.{ltb, eqb}
 use borrow.Author.Tests.{lt-ltb, le-ltb}
+use Rattle.base_layout.specs.Layout.{tidBound}
 use Rattle.base_lists.specs.Seq.{pick, bit}
 use Rattle.base_lists.proofs.Laws.{true-false}
 use Rattle.table_record.specs.Record.{roleNumber, sendTid}
 use Rattle.table_record.specs.declared.Role.{Role}
 use Rattle.table_record.specs.declared.Role.the-variants.{Initiator, Responder}
-use Rattle.table_ranges.specs.Ranges.{tidBound}
 use Rattle.step_arrivals.specs.Arrivals.{tidOf}
 use Rattle.row_columns.specs.declared.Send.{Send}
 use Rattle.row_columns.specs.declared.Send.the-variants as Send

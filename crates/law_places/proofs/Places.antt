@@ -4,12 +4,12 @@ use native.Mathlib.Omega.{arith}
 use mathlib.Core.Path.{_≡_, refl}
 use mathlib.Core.List.{List}
 use mathlib.Core.Logic.{inl, inr}
+use Rattle.base_layout.specs.Layout.{recordsBound}
 use Rattle.table_record.specs.declared.Role.{Role}
 use Rattle.table_record.specs.Record.{stateNumber}
 use Rattle.table_record.specs.declared.State.{State}
 use Rattle.table_record.specs.declared.State.the-variants as State
 use Rattle.table_layout.specs.Table.{count, settingsOf, recordAt}
-use Rattle.table_ranges.specs.Ranges.{recordsBound}
 use Rattle.table_record_ok.specs.OneRecord.{Live, InRange, RecordOk}
 use Rattle.table_record_ok.proofs.Meaning.{free-state}
 use Rattle.table_well_formed.specs.WellFormed.{WellFormed}

@@ -4,9 +4,9 @@ use native.Mathlib.Omega.{arith}
 use mathlib.Core.Path.{_≡_, sym, _∙_}
 use mathlib.Core.List.{List}
 use lib.ListN.{length}
+use Rattle.base_layout.specs.Layout.{headerSize, recordSize, tidBound, recordsBound}
 use Rattle.table_record.specs.declared.Role.{Role}
-use Rattle.table_layout.specs.Table.{headerSize, recordSize, count, recordAt}
-use Rattle.table_ranges.specs.Ranges.{tidBound, recordsBound}
+use Rattle.table_layout.specs.Table.{count, recordAt}
 use Rattle.table_well_formed.specs.WellFormed.{WellFormed}
 use Rattle.table_finding.specs.Finding.{namedOf, freeOf, dueOf}
 use Rattle.table_finding.specs.declared.Found.{Found}

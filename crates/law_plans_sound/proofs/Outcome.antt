@@ -5,11 +5,11 @@ use mathlib.Core.List.{List}
 use mathlib.Core.Bool.{Bool, true, false}
 use mathlib.Core.Logic.{inl, inr}
 use lib.ListN.{length, getD}
+use Rattle.base_layout.specs.Layout.{cellSize}
 use Rattle.base_lists.specs.Seq.{put, part}
 use Rattle.base_lists.proofs.Laws.{length-put, length-part}
 use Rattle.base_octets.proofs.Laws.{getD-before, getD-after}
 use Rattle.base_numbers.specs.declared.Refusal.{Refusal}
-use Rattle.table_ranges.specs.Ranges.{cellSize}
 use Rattle.step_commit.proofs.Length.{length-after}
 use Rattle.law_commit.proofs.Keeps.{commit-keeps}
 use Rattle.law_commit.proofs.Frame.{commit-frames}

@@ -7,6 +7,7 @@ use mathlib.Core.Bool.{Bool, true, false}
 use mathlib.Core.Logic.{_⊎_, inl, inr}
 use lib.ListN.{length}
 use lib.Dec.{eqb}
+use Rattle.base_layout.specs.Layout.{exitBound}
 use Rattle.base_lists.specs.Seq.{pick}
 use Rattle.base_lists.proofs.Laws.{true-false}
 use Rattle.table_record.specs.Record.{stateNumber}
@@ -18,7 +19,6 @@ use Rattle.table_record.specs.declared.Record.{Record}
 use Rattle.codec_pdu.specs.declared.Pdu.{Pdu}
 use Rattle.codec_reading.specs.Read.{pduOf}
 use Rattle.table_layout.specs.Table.{count, recordAt, settingsOf, rowsOf}
-use Rattle.table_ranges.specs.Ranges.{exitBound}
 use Rattle.law_formed_kept.specs.Kept.{Unused}
 use Rattle.table_finding.specs.Finding.{freeOf}
 use Rattle.row_events.specs.declared.Opening.{Opening}

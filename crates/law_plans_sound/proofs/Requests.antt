@@ -5,13 +5,13 @@ use mathlib.Core.Path.{_≡_, refl, _∙_}
 use mathlib.Core.Bool.{Bool, true, false}
 use lib.ListN.{length}
 use lib.Dec.{eqb}
+use Rattle.base_layout.specs.Layout.{tidBound, exitBound}
 use Rattle.base_lists.specs.Seq.{pick}
 use Rattle.table_record.specs.Record.{stateNumber}
 use Rattle.table_record.specs.declared.Role.the-variants.{Initiator}
 use Rattle.table_record.specs.declared.Record.{Record}
 use Rattle.table_layout.specs.Table.{count, genTidOf, settingsOf, rowsOf}
 use Rattle.table_tids.specs.Tids.{nextTid}
-use Rattle.table_ranges.specs.Ranges.{tidBound, exitBound}
 use Rattle.law_formed_kept.specs.Kept.{Unused}
 use Rattle.row_events.specs.declared.Opening.{Opening}
 use Rattle.row_events.specs.declared.Opening.the-variants as Opening

@@ -3,8 +3,8 @@ use Prim.Native.Nat.{ℕ, _≤_}
 use native.Mathlib.Omega.{arith}
 use mathlib.Core.Path.{_≡_, refl}
 use lib.ListN.{length}
+use Rattle.base_layout.specs.Layout.{exitBound}
 use Rattle.table_layout.specs.Table.{count}
-use Rattle.table_ranges.specs.Ranges.{exitBound}
 use Rattle.table_finding.specs.Finding.{dueOf}
 use Rattle.table_finding.specs.declared.Found.{Found}
 use Rattle.table_finding.specs.declared.Found.the-variants as Found

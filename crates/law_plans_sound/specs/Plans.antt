@@ -3,7 +3,7 @@ use Prim.Native.Nat.{ℕ, _+_, _*_, _≤_, _<_}
 use mathlib.Core.Path.{_≡_}
 use mathlib.Core.Logic.{_⊎_}
 use lib.ListN.{length, getD}
-use Rattle.table_ranges.specs.Ranges.{cellSize}
+use Rattle.base_layout.specs.Layout.{cellSize}
 use Rattle.table_well_formed.specs.WellFormed.{Fitting}
 use Rattle.law_commit.specs.Allowed.{Framed}
 use Rattle.step_plan.specs.declared.Step.{Step}

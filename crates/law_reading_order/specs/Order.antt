@@ -5,6 +5,7 @@ use mathlib.Core.List.{List, [], _∷_}
 use mathlib.Core.Bool.{true}
 use mathlib.Core.Logic.{_⊎_, _↔_}
 use lib.ListN.{length, getD}
+use Rattle.base_layout.specs.Layout.{datagramBound}
 use Rattle.base_numbers.specs.declared.Malformed.{Malformed}
 use Rattle.base_numbers.specs.declared.Malformed.the-variants.{D1, D2, D3, D4, D5, D6, D7}
 use Rattle.base_numbers.specs.declared.Refusal.the-variants.{WrongLength}
@@ -83,7 +84,7 @@ NoneHolds (c ∷ cs) = (c .0 → ⊥) × NoneHolds cs
 
 -- 01, number 11: "PDU length outside 1 to 1,500"
 abbrev pub OutsideLength : List ℕ → Type 0
-OutsideLength s = (length s < 1) ⊎ (1500 < length s)
+OutsideLength s = (length s < 1) ⊎ (datagramBound < length s)
 
 -- what the reader answers, exactly when: "The numbers of the table above come before these"
 pub record InOrder (s : List ℕ) : Type 0 where

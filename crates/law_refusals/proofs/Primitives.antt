@@ -7,9 +7,9 @@ use mathlib.Core.List.{List}
 use mathlib.Core.Bool.{true, false, not}
 use mathlib.Core.Logic.{_⊎_, inl, inr}
 use lib.Dec.{ltb}
+use Rattle.base_layout.specs.Layout.{peers}
 use Rattle.base_lists.proofs.Laws.{true-false, told}
 use Rattle.base_numbers.specs.declared.Refusal.the-variants.{PeerTooLarge, TooLong, NoRecord, NotAllowed}
-use Rattle.table_ranges.specs.Ranges.{peers}
 use Rattle.table_well_formed.specs.WellFormed.{WellFormed, Fitting, fitting}
 use Rattle.table_well_formed.proofs.Meaning.{to-fitting, from-fitting}
 use Rattle.table_finding.specs.Finding.{isFound}

@@ -3,8 +3,8 @@ use Prim.Native.Nat.{ℕ, _≤_, _<_}
 use mathlib.Core.Path.{_≡_}
 use mathlib.Core.List.{List, [], _∷_}
 use mathlib.Core.Logic.{_⊎_}
+use Rattle.base_layout.specs.Layout.{peers, exitBound, cellSize}
 use Rattle.base_numbers.specs.declared.Refusal.the-variants.{PeerTooLarge, TooLong, NoRecord, NotAllowed}
-use Rattle.table_ranges.specs.Ranges.{peers, cellSize, exitBound}
 use Rattle.row_events.specs.declared.Row.the-variants as Row
 use Rattle.call_refusal.specs.Judging.{Condition, condition, Unfit, Late}
 use Rattle.step_live.specs.Turning.{rowAt}

@@ -1,9 +1,9 @@
 -- When a request is refused, as document 01's table of numbers says it.
 use Prim.Native.Nat.{ℕ, _≤_, _<_}
 use mathlib.Core.List.{List, [], _∷_}
+use Rattle.base_layout.specs.Layout.{peers, cellSize}
 use Rattle.base_numbers.specs.declared.Refusal.the-variants.{PeerTooLarge, TooLong, WrongClass, TidInUse, TableFull}
 use Rattle.table_layout.specs.Table.{count, recordAt}
-use Rattle.table_ranges.specs.Ranges.{peers, cellSize}
 use Rattle.table_record_ok.specs.OneRecord.{Live}
 use Rattle.call_refusal.specs.Judging.{Condition, condition, Unfit, Late}
 use Rattle.call_request.specs.Requests.{UsesGenTid}

@@ -7,6 +7,7 @@ use mathlib.Core.List.{List, [], _∷_}
 use borrow.Author.Tests.{ltb-true, lt-ltb}
 use lib.Dec.{ltb, eqb}
 use lib.ListN.{getD}
+use Rattle.base_layout.specs.Layout.{intervalBound, deadlineBound, tidBound, peers, exitBound, cellSize}
 use Rattle.base_lists.specs.Seq.{pick, every}
 use Rattle.table_record.specs.Record.{stateOf, classOf}
 use Rattle.table_record.specs.declared.State.{State}
@@ -32,7 +33,6 @@ use Rattle.row_columns.specs.declared.ExitInfo.the-variants as ExitInfo
 use Rattle.row_columns.specs.declared.Act.{Act}
 use Rattle.row_entries.specs.Acts.{actOf, openingAct}
 use Rattle.table_tids.specs.Tids.{intervalOf}
-use Rattle.table_ranges.specs.Ranges.{peers, intervalBound, deadlineBound, tidBound, exitBound, cellSize}
 use Rattle.row_turns.specs.Turns.{upOf, rcrAfter, aecAfter, exitLenAfter, lenAfter, deadlineAfter, newRecord, movedTo, recordAfter, turnOf, rowTurn, openingTurn}
 use Rattle.row_turns.specs.declared.Given.{Given}
 use Rattle.law_rows.specs.Shown.{actAt}

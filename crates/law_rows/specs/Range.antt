@@ -2,7 +2,7 @@
 use Prim.Native.Nat.{ℕ, _≤_, _<_}
 use mathlib.Core.List.{List, []}
 use lib.ListN.{getD}
-use Rattle.table_ranges.specs.Ranges.{timeBound, intervalBound, exitBound, cellSize}
+use Rattle.base_layout.specs.Layout.{timeBound, intervalBound, exitBound, cellSize}
 use Rattle.table_layout.specs.declared.Settings.{Settings}
 use Rattle.row_turns.specs.declared.Given.{Given}
 

@@ -3,9 +3,9 @@ use Prim.Native.Nat.{ℕ, _+_, _≤_}
 use mathlib.Core.Path.{_≡_}
 use mathlib.Core.List.{List}
 use lib.ListN.{length}
+use Rattle.base_layout.specs.Layout.{exitBound, cellSize}
 use Rattle.codec_reading.specs.Read.{pduOf}
 use Rattle.law_reads_back.specs.ReadsBack.{meaningOf}
-use Rattle.table_ranges.specs.Ranges.{exitBound, cellSize}
 use Rattle.row_columns.specs.declared.Send.{Send}
 use Rattle.row_columns.specs.declared.Send.the-variants.{Nothing, Invoke, Tidok, LastAck, HoldOn, Tidve, Result, Abort}
 use Rattle.step_sending.specs.declared.Sender.{Sender}

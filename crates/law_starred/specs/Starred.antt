@@ -4,6 +4,7 @@ use mathlib.Core.Path.{_≡_}
 use mathlib.Core.List.{List, [], _∷_}
 use mathlib.Core.Bool.{true, false}
 use lib.ListN.{length, replicate}
+use Rattle.base_layout.specs.Layout.{tidCount}
 use Rattle.base_numbers.specs.declared.Malformed.{Malformed}
 use Rattle.base_numbers.specs.declared.Malformed.the-variants.{D1, D2, D5, D7}
 use Rattle.base_numbers.specs.declared.Verdict.{Verdict}
@@ -54,7 +55,7 @@ Says (separates datagram split) = partsOf datagram ≡ split
 Says (tests last tid test) = testOf (last + 1) tid ≡ test
 Says (sends source send by octets) = octetsOf source (sentPdu send by) ≡ octets
 Says (unmatched octets sent) =
-    (l : Lent) (time peer : ℕ) (step : Step) → l .given ≡ octets → namedOf (l .table) (count (l .table)) Initiator peer (tidOf octets % 32768) ≡ Nothing
+    (l : Lent) (time peer : ℕ) (step : Step) → l .given ≡ octets → namedOf (l .table) (count (l .table)) Initiator peer (tidOf octets % tidCount) ≡ Nothing
     → receivePlan (l .table) (length (l .store)) (length (l .output)) time peer (l .given) ≡ Go step → sentThen l step ≡ sent
 
 -- every case of a table holds

@@ -8,12 +8,11 @@ use mathlib.Core.Bool.{Bool, true, false}
 use mathlib.Core.Logic.{inl, inr}
 use lib.ListN.{length}
 use lib.Dec.{eqb}
+use Rattle.base_layout.specs.Layout.{timeBound, tidBound, cachedBound, peers, exitBound}
 use Rattle.base_lists.specs.Seq.{pick}
 use Rattle.table_record.specs.Record.{stateNumber}
 use Rattle.table_record.specs.declared.Record.{Record}
 use Rattle.table_layout.specs.Table.{count, settingsOf, rowsOf, cachedOf, recordAt}
-use Rattle.table_ranges.specs.Ranges.{timeBound, tidBound, exitBound, peers}
-use Rattle.table_header_ok.specs.Header.{cachedBound}
 use Rattle.table_record_ok.specs.OneRecord.{Bounded}
 use Rattle.table_well_formed.specs.WellFormed.{WellFormed}
 use Rattle.law_formed_kept.specs.Kept.{Unused}

@@ -3,9 +3,9 @@ use Prim.Native.Nat.{ℕ, _≤_, _<_}
 use native.Mathlib.Omega.{arith}
 use mathlib.Core.Path.{_≡_, refl}
 use mathlib.Core.Bool.{false}
+use Rattle.base_layout.specs.Layout.{exitBase, exitBound, cellSize}
 use Rattle.base_lists.proofs.Laws.{true-false}
-use Rattle.table_layout.specs.Table.{exitBase, count}
-use Rattle.table_ranges.specs.Ranges.{cellSize, exitBound}
+use Rattle.table_layout.specs.Table.{count}
 use Rattle.row_columns.specs.declared.Send.{Send}
 use Rattle.row_columns.specs.declared.Send.the-variants.{Nothing, Invoke, Tidok, LastAck, HoldOn, Tidve, Result, Abort}
 use Rattle.row_turns.specs.declared.Turn.{Turn}

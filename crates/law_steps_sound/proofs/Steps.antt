@@ -5,12 +5,12 @@ use mathlib.Core.Path.{_≡_, refl}
 use mathlib.Core.List.{List}
 use mathlib.Core.Bool.{Bool, true, false}
 use lib.ListN.{length}
+use Rattle.base_layout.specs.Layout.{timeBound, tidBound, peers, exitBound, cellSize}
 use Rattle.base_lists.proofs.Laws.{true-false}
 use Rattle.table_record.specs.Record.{classOf, stateNumber}
 use Rattle.table_record.specs.declared.State.{State}
 use Rattle.table_record.specs.declared.State.the-variants as State
 use Rattle.table_layout.specs.Table.{count, recordAt}
-use Rattle.table_ranges.specs.Ranges.{timeBound, tidBound, cellSize, exitBound, peers}
 use Rattle.law_formed_kept.specs.Kept.{Unused}
 use Rattle.row_events.specs.declared.Event.{Event}
 use Rattle.row_events.specs.declared.Opening.{Opening}

@@ -1,7 +1,7 @@
 -- What holds of a step before it is carried out.
 use Prim.Native.Nat.{_+_, _≤_}
 use lib.ListN.{length}
-use Rattle.table_ranges.specs.Ranges.{timeBound, cellSize, exitBound}
+use Rattle.base_layout.specs.Layout.{timeBound, exitBound, cellSize}
 use Rattle.table_well_formed.specs.WellFormed.{Fitting}
 use Rattle.row_turns.specs.declared.Given.{Given}
 use Rattle.step_plan.specs.declared.Call.{Call}

@@ -3,6 +3,7 @@ use Prim.Native.Nat.{ℕ, _+_, _*_, _≤_, _<_}
 use mathlib.Core.Path.{_≡_}
 use mathlib.Core.List.{List, [], _∷_}
 use mathlib.Core.Logic.{_⊎_}
+use Rattle.base_layout.specs.Layout.{datagramBound}
 use Rattle.base_numbers.specs.declared.Malformed.the-variants.{D1, D2, D3, D4, D5, D6, D7}
 use Rattle.base_numbers.specs.declared.Refusal.the-variants.{WrongLength}
 use Rattle.codec_pdu.specs.Pdu.{blankPdu}
@@ -19,7 +20,7 @@ WrongType w = (word w 0 ≡ 0) ⊎ (7 < word w 0)
 
 -- 01: number 11 for a "PDU length outside 1 to 1,500 .. to be written"; it is never 0
 abbrev pub OverLong : List ℕ → Type 0
-OverLong w = 1500 < lengthSaid w
+OverLong w = datagramBound < lengthSaid w
 
 -- the C interface: "D1 is any value too wide for its place, a Nack list or user data that runs past BYTES"
 abbrev pub TooWide : List ℕ → ℕ → Type 0

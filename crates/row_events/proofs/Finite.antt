@@ -6,6 +6,7 @@ use mathlib.Core.Bool.{Bool, true, false}
 use mathlib.Core.List.{List, [], _∷_}
 use lib.ListN.{length}
 use borrow.Author.Tests.{eqb-true}
+use Rattle.base_layout.specs.Layout.{stateBound}
 use Rattle.base_lists.specs.Seq.{pick, bit, every}
 use Rattle.base_lists.proofs.Laws.{both-fst, both-snd, every-at}
 use Rattle.table_record.specs.Record.{stateNumber, stateOf}
@@ -21,7 +22,7 @@ use Rattle.row_events.specs.declared.Opening.{Opening}
 use Rattle.row_events.specs.declared.Opening.the-variants as Opening
 use Rattle.row_events.specs.declared.Conditions.{Conditions}
 
-state-small : (s : State) → stateNumber s < 12
+state-small : (s : State) → stateNumber s < stateBound + 1
 state-small Free = omega arith
 state-small IResultWait1 = omega arith
 state-small IResultWait2 = omega arith
@@ -129,7 +130,7 @@ at-flags (true ∷ l) f e = at-flags l (λ m. f (true ∷ m)) (both-fst (allFlag
 at-flags (false ∷ l) f e = at-flags l (λ m. f (false ∷ m)) (both-snd (allFlags (length l) (λ m. f (true ∷ m))) (allFlags (length l) (λ m. f (false ∷ m))) e)
 
 abbrev pub allStates : (State → Event → Conditions → Bool) → Bool
-allStates f = every (λ i. every (λ j. every (λ k. f (stateOf i) (eventNumbered j) (conditionsNumbered k)) 4) 16) 12
+allStates f = every (λ i. every (λ j. every (λ k. f (stateOf i) (eventNumbered j) (conditionsNumbered k)) 4) 16) (stateBound + 1)
 
 abbrev pub allRows : (Row → Bool) → Bool
 allRows f = every (λ k. f (rowNumbered k)) 33
@@ -141,7 +142,7 @@ pub at-state : (f : State → Event → Conditions → Bool) → allStates f ≡
 at-state f computed s e c =
     each (λ x. f s e x) 4 conditionsNumbered
     (each (λ x. every (λ k. f s x (conditionsNumbered k)) 4) 16 eventNumbered
-    (each (λ x. every (λ j. every (λ k. f x (eventNumbered j) (conditionsNumbered k)) 4) 16) 12 stateOf computed s (stateNumber s) (state-small s, state-back s))
+    (each (λ x. every (λ j. every (λ k. f x (eventNumbered j) (conditionsNumbered k)) 4) 16) (stateBound + 1) stateOf computed s (stateNumber s) (state-small s, state-back s))
     e (eventNumber e) (event-numbered e))
     c (conditionsNumber c) (conditions-numbered c)
 

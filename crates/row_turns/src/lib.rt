@@ -1,7 +1,7 @@
 // A turn: the right-hand side of a row applied to a record.
 ghost use mathlib.Core.Path.{_≡_};
 ghost use Prim.Native.Nat.{_≤_};
-ghost use Rattle.table_ranges.specs.Ranges.{timeBound};
+ghost use Rattle.base_layout.specs.Layout.{timeBound};
 ghost use Rattle.row_turns.specs.Turns.{upOf, rcrAfter, aecAfter, holdOnAfter, tidokSentAfter, holdOnSentAfter, exitLenAfter, storesExit, lenAfter, noTimer, deadlineAfter, newRecord, movedTo, recordAfter, turnOf, rowTurn, openingTurn};
 use row_columns::Act;
 use row_columns::Cache;

@@ -4,6 +4,7 @@ use mathlib.Core.List.{List}
 use mathlib.Core.Bool.{Bool, false, not}
 use lib.ListN.{length, getD}
 use lib.Dec.{ltb, leb, eqb}
+use Rattle.base_layout.specs.Layout.{tidCount, cellSize}
 use Rattle.base_lists.specs.Seq.{pick}
 use Rattle.codec_items.specs.Items.{noItem}
 use Rattle.codec_items.specs.declared.Item.{Item}
@@ -31,9 +32,9 @@ tidOf s = getD s 1 0 * 256 + getD s 2 0
 unfoldable pub nameOf : List ℕ → Name
 nameOf s =
     pick (ltb (length s) 3) Nobody
-    (pick (ltb (tidOf s) 32768)
-    (pick (eqb (typeOf s) 2) Nobody (Of Responder (tidOf s % 32768)))
-    (pick (eqb (typeOf s) 1) Nobody (Of Initiator (tidOf s % 32768))))
+    (pick (ltb (tidOf s) tidCount)
+    (pick (eqb (typeOf s) 2) Nobody (Of Responder (tidOf s % tidCount)))
+    (pick (eqb (typeOf s) 1) Nobody (Of Initiator (tidOf s % tidCount))))
 
 -- 01: "The top bit is 0 towards the responder, 1 towards the initiator": the type that is ignored towards a role
 abbrev pub ignoredType : Role → ℕ
@@ -89,13 +90,13 @@ infoOf p = infoFrom (pick (leb (p .count) 16) (p .count) 16) (p .list) 0
 
 -- 01: "type 1, at least three octets and top bit 0", malformed or not
 unfoldable pub invokesUs : List ℕ → Bool
-invokesUs s = pick (ltb (length s) 3) false (pick (eqb (typeOf s) 1) (ltb (tidOf s) 32768) false)
+invokesUs s = pick (ltb (length s) 3) false (pick (eqb (typeOf s) 1) (ltb (tidOf s) tidCount) false)
 
 -- 01: "Ack with TIDve (top bit 1)"
 unfoldable pub isTidve : Kind → ℕ → Bool
 isTidve (Invoke gtr ttr rid v n u l) tid = false
 isTidve (Result gtr ttr rid) tid = false
-isTidve (Ack tve rid) tid = pick tve (leb 32768 tid) false
+isTidve (Ack tve rid) tid = pick tve (leb tidCount tid) false
 isTidve (Abort t r) tid = false
 isTidve (SegInvoke gtr ttr rid p) tid = false
 isTidve (SegResult gtr ttr rid p) tid = false
@@ -128,7 +129,7 @@ arrivedOf s p full valid = record {
   class = wantedOf (p .kind) .class;
   «wrong_version» = wantedOf (p .kind) .«wrong_version»;
   «ttr_clear» = wantedOf (p .kind) .«ttr_clear»;
-  «too_long» = ltb 1024 (p .len);
+  «too_long» = ltb cellSize (p .len);
   full = full;
   valid = valid;
 }

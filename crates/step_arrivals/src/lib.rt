@@ -3,6 +3,7 @@ ghost use mathlib.Core.Path.{_≡_};
 ghost use Prim.Native.Nat.{_+_, _≤_, _<_};
 ghost use lib.ListN.{length};
 ghost use Rattle.step_arrivals.specs.Arrivals.{tidOf, nameOf, eventOf, noCause, causeOf, infoFrom, infoOf, invokesUs, isTidve, noWant, wantedOf, arrivedOf};
+use base_layout::TID_COUNT;
 use codec_items::Item;
 use codec_pdu::Kind;
 use codec_pdu::Pdu;
@@ -58,16 +59,16 @@ pub fn named_by(s: &[u8]) -> Name
     }
     let typ = s[0] / 8 % 16;
     let tid = tid_of(s);
-    if tid < 32768 {
+    if tid < TID_COUNT {
         if typ == 2 {
             return Name::Nobody;
         }
-        return Name::Of(Role::Responder, tid % 32768);
+        return Name::Of(Role::Responder, tid % TID_COUNT);
     }
     if typ == 1 {
         return Name::Nobody;
     }
-    Name::Of(Role::Initiator, tid % 32768)
+    Name::Of(Role::Initiator, tid % TID_COUNT)
 }
 
 // The event that a PDU is to a live record. A refused length never comes here: it counts as malformed.
@@ -170,7 +171,7 @@ fn invokes_us(s: &[u8]) -> bool
         return false;
     }
     if s[0] / 8 % 16 == 1 {
-        return tid_of(s) < 32768;
+        return tid_of(s) < TID_COUNT;
     }
     false
 }
@@ -180,7 +181,7 @@ fn is_tidve(kind: Kind, tid: u16) -> bool
     ensures { λ r. ⌜ r ≡ isTidve kind tid ⌝ }
 {
     match kind {
-        Kind::Ack { tve, .. } => { if tve { 32768 <= tid } else { false } }
+        Kind::Ack { tve, .. } => { if tve { TID_COUNT <= tid } else { false } }
         Kind::Invoke { .. } => false,
         Kind::Result { .. } => false,
         Kind::Abort { .. } => false,
@@ -244,7 +245,7 @@ pub fn arrived(s: &[u8], p: Pdu, full: bool, valid: bool) -> Arrived
         class: want.class,
         wrong_version: want.wrong_version,
         ttr_clear: want.ttr_clear,
-        too_long: 1024 < p.len,
+        too_long: base_layout::CELL_SIZE < p.len,
         full: full,
         valid: valid,
     }

@@ -1,6 +1,7 @@
 // From a turn of a record to the changes of the table that it stands for.
 ghost use mathlib.Core.Path.{_≡_};
 ghost use Prim.Native.Nat.{_<_};
+ghost use Rattle.base_layout.specs.Layout.{tidCount};
 ghost use Rattle.step_changes.specs.Changes.{changeOf, cachedAfter, turnChanges};
 use row_columns::Cache;
 use row_turns::Turn;
@@ -23,7 +24,7 @@ pub fn change_of(after: Record, ended: Change) -> Change
 
 // What becomes of the cached TID of the peer: 0 is none, else LastTID and 1.
 pub fn cached_after(cache: Cache, cached: u16, tid: u16) -> Header
-    requires { ⌜ tid < 32768 ⌝ }
+    requires { ⌜ tid < tidCount ⌝ }
     ensures { λ r. ⌜ r ≡ cachedAfter cache cached tid ⌝ }
 {
     match cache {
@@ -41,7 +42,7 @@ pub fn cached_after(cache: Cache, cached: u16, tid: u16) -> Header
 
 // The changes of a turn of the record at a place, whose peer has this TID cached.
 pub fn turn_changes(turn: Turn, place: usize, peer: u8, tid: u16, cached: u16, time: u64) -> Changes
-    requires { ⌜ tid < 32768 ⌝ }
+    requires { ⌜ tid < tidCount ⌝ }
     ensures { λ r. ⌜ r ≡ turnChanges turn place peer tid cached time ⌝ }
 {
     let after = turn.after;

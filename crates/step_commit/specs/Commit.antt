@@ -2,8 +2,9 @@
 use Prim.Native.Nat.{ℕ}
 use mathlib.Core.List.{List}
 use mathlib.Core.Bool.{Bool, true, false}
+use Rattle.base_layout.specs.Layout.{exitBase}
 use Rattle.base_lists.specs.Seq.{put}
-use Rattle.table_layout.specs.Table.{exitBase, putRecord, clearRecord, putGenTid, putCached, putClock}
+use Rattle.table_layout.specs.Table.{putRecord, clearRecord, putGenTid, putCached, putClock}
 use Rattle.step_commit.specs.declared.Change.{Change}
 use Rattle.step_commit.specs.declared.Change.the-variants.{Nothing, Put, Clear}
 use Rattle.step_commit.specs.declared.Header.{Header}

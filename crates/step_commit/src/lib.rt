@@ -2,9 +2,11 @@
 ghost use mathlib.Core.Path.{_≡_};
 ghost use Prim.Native.Nat.{_+_, _*_, _≤_, _<_};
 ghost use lib.ListN.{length};
-ghost use Rattle.table_layout.specs.Table.{headerSize, recordSize};
-ghost use Rattle.table_ranges.specs.Ranges.{exitBound, peers};
+ghost use Rattle.base_layout.specs.Layout.{headerSize, recordSize, peers, exitBound};
 ghost use Rattle.step_commit.specs.Commit.{recordChanged, exitStored, genTidChanged, cacheChanged, tableAfter};
+use base_layout::EXIT_OFFSET;
+use base_layout::HEADER_SIZE;
+use base_layout::RECORD_SIZE;
 use table_record::Record;
 
 // What becomes of the record: "ended records are used again", so an ended one is zeroed.
@@ -48,7 +50,7 @@ fn store_exit(t: &mut [u8], place: usize, stored: bool, exit: &[u8])
     ensures { λ _. ⌜ now (t .exit) ≡ exitStored (now (t .entry)) place stored (now (exit .entry)) ⌝ }
 {
     if stored {
-        base_lists::store(t, 624 + place * 160 + 32, exit);
+        base_lists::store(t, HEADER_SIZE + place * RECORD_SIZE + EXIT_OFFSET, exit);
     }
 }
 

@@ -2,8 +2,8 @@
 ghost use mathlib.Core.Path.{_≡_};
 ghost use Prim.Native.Nat.{_+_, _*_, _≤_, _<_};
 ghost use lib.ListN.{length};
-ghost use Rattle.table_layout.specs.Table.{headerSize, recordSize, recordAt};
-ghost use Rattle.table_ranges.specs.Ranges.{timeBound, tidBound, recordsBound};
+ghost use Rattle.base_layout.specs.Layout.{headerSize, recordSize, timeBound, tidBound, recordsBound};
+ghost use Rattle.table_layout.specs.Table.{recordAt};
 ghost use Rattle.step_live.specs.Turning.{rowAt, holderOf, liveStep};
 use row_events::Event;
 use row_events::Row;

@@ -2,8 +2,7 @@
 ghost use mathlib.Core.Path.{_≡_};
 ghost use Prim.Native.Nat.{_+_, _*_, _≤_, _<_};
 ghost use lib.ListN.{length};
-ghost use Rattle.table_layout.specs.Table.{headerSize};
-ghost use Rattle.table_ranges.specs.Ranges.{timeBound, tidBound, recordsBound};
+ghost use Rattle.base_layout.specs.Layout.{headerSize, timeBound, tidBound, recordsBound};
 ghost use Rattle.step_opening.specs.Opens.{openingChanges, placeFor, openingStep};
 use row_events::Opening;
 use row_turns::Given;

@@ -4,8 +4,8 @@ use native.Mathlib.Omega.{arith}
 use mathlib.Core.Path.{_≡_}
 use mathlib.Core.List.{List}
 use lib.ListN.{length}
+use Rattle.base_layout.specs.Layout.{outputLeast}
 use Rattle.base_lists.specs.Seq.{put}
-use Rattle.table_ranges.specs.Ranges.{outputLeast}
 use Rattle.codec_pdu.specs.declared.Pdu.{Pdu}
 use Rattle.codec_encoding.specs.Write.{Fit, octetsOf}
 use Rattle.row_columns.specs.declared.Send.{Send}

@@ -4,9 +4,8 @@ use mathlib.Core.Path.{_≡_}
 use mathlib.Core.List.{List}
 use mathlib.Core.Bool.{Bool, true, false}
 use lib.ListN.{length}
+use Rattle.base_layout.specs.Layout.{recordSize, base, peers, exitBound, cellSize, outputLeast}
 use Rattle.base_lists.specs.Seq.{put, part}
-use Rattle.table_layout.specs.Table.{base, recordSize}
-use Rattle.table_ranges.specs.Ranges.{cellSize, exitBound, outputLeast, peers}
 use Rattle.row_columns.specs.declared.Send.{Send}
 use Rattle.row_columns.specs.declared.Send.the-variants.{Nothing, Invoke, Tidok, LastAck, HoldOn, Tidve, Result, Abort}
 use Rattle.step_commit.specs.Commit.{tableAfter}

@@ -2,8 +2,8 @@
 ghost use mathlib.Core.Path.{_≡_};
 ghost use Prim.Native.Nat.{_+_, _*_, _≤_, _<_};
 ghost use lib.ListN.{length};
+ghost use Rattle.base_layout.specs.Layout.{outputLeast};
 ghost use Rattle.base_lists.specs.Seq.{put};
-ghost use Rattle.table_ranges.specs.Ranges.{outputLeast};
 ghost use Rattle.step_sending.specs.Octets.{FitSend, octetsSent};
 ghost use Rattle.step_outcome.specs.Carry.{isNothing, CellFits, cellWritten, FitOut, octetsOut, Ready, lent, done, carriedOut};
 use base_numbers::Refusal;
@@ -32,7 +32,13 @@ fn write_cell(store: &mut [u8], cell: bool, place: usize, given: &[u8], message:
     ensures { λ _. ⌜ now (store .exit) ≡ cellWritten (now (store .entry)) cell place (now (given .entry)) message ⌝ }
 {
     if cell {
-        base_lists::copy(store, place * 1024, given, message.start, message.len);
+        base_lists::copy(
+            store,
+            place * base_layout::CELL_SIZE,
+            given,
+            message.start,
+            message.len,
+        );
     }
 }
 

@@ -1,9 +1,8 @@
 -- What an accepted call does, as data (01, "Numbers given back"): "stores its time, .. sends at most one PDU and gives at most two indications, in order".
 use Prim.Native.Nat.{ℕ, _*_}
 use mathlib.Core.Bool.{false}
+use Rattle.base_layout.specs.Layout.{exitBase, cellSize}
 use Rattle.table_record.specs.declared.Role.the-variants.{Initiator}
-use Rattle.table_layout.specs.Table.{exitBase}
-use Rattle.table_ranges.specs.Ranges.{cellSize}
 use Rattle.row_columns.specs.declared.Send.{Send}
 use Rattle.row_columns.specs.declared.Send.the-variants as Send
 use Rattle.row_turns.specs.declared.Turn.{Turn}

@@ -1,8 +1,11 @@
 // What an accepted call does, as data: the changes of the table, the cell, the PDU to send, what the user is shown, what the answer tells.
 ghost use mathlib.Core.Path.{_≡_};
 ghost use Prim.Native.Nat.{_<_};
-ghost use Rattle.table_ranges.specs.Ranges.{recordsBound};
+ghost use Rattle.base_layout.specs.Layout.{recordsBound};
 ghost use Rattle.step_plan.specs.Steps.{noPart, cellOf, messageOf, senderOf, placeIn, contextOf, toldOf, stepOf, idleStep};
+use base_layout::EXIT_OFFSET;
+use base_layout::HEADER_SIZE;
+use base_layout::RECORD_SIZE;
 use base_numbers::Refusal;
 use row_columns::Send;
 use row_turns::Turn;
@@ -84,7 +87,7 @@ fn cell_of(h: Holder) -> Part
     ensures { λ r. ⌜ r ≡ cellOf h ⌝ }
 {
     Part {
-        start: h.place * 1024,
+        start: h.place * base_layout::CELL_SIZE,
         len: h.len as usize,
     }
 }
@@ -117,7 +120,7 @@ fn sender_of(turn: Turn, h: Holder, c: Call) -> Sender
         user_ack: h.up,
         start: message.start,
         len: message.len,
-        exit_start: 624 + h.place * 160 + 32,
+        exit_start: HEADER_SIZE + h.place * RECORD_SIZE + EXIT_OFFSET,
         exit_len: after.exit_len as usize,
     }
 }

@@ -7,6 +7,7 @@ use mathlib.Core.List.{List}
 use mathlib.Core.Bool.{Bool, true, false}
 use lib.ListN.{length}
 use lib.Dec.{ltb, eqb}
+use Rattle.base_layout.specs.Layout.{exitBound}
 use Rattle.base_lists.specs.Seq.{pick}
 use Rattle.base_numbers.specs.declared.Verdict.the-variants.{Sound}
 use Rattle.codec_pdu.specs.Pdu.{bareOf}
@@ -17,7 +18,6 @@ use Rattle.table_record.specs.declared.Role.{Role}
 use Rattle.table_record.specs.declared.Role.the-variants.{Initiator, Responder}
 use Rattle.table_record.specs.Record.{sendTid}
 use Rattle.codec_encoding.specs.Write.{longest, FitItem, FitItems, FitKind, Fit, kindFault, restFault, faultOf}
-use Rattle.table_ranges.specs.Ranges.{exitBound}
 use Rattle.row_columns.specs.declared.Send.{Send}
 use Rattle.row_columns.specs.declared.Send.the-variants.{Nothing, Invoke, Tidok, LastAck, HoldOn, Tidve, Result, Abort}
 use Rattle.step_sending.specs.declared.Sender.{Sender}

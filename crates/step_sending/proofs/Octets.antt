@@ -6,11 +6,11 @@ use mathlib.Core.List.{List, [], _∷_, _++_, append-nil}
 use mathlib.Core.Bool.{Bool, true, false}
 use lib.ListN.{length}
 use lib.Dec.{ltb, eqb}
+use Rattle.base_layout.specs.Layout.{exitBound, outputLeast}
 use Rattle.base_lists.specs.Seq.{pick, bit}
 use Rattle.base_lists.proofs.Laws.{length-part}
 use Rattle.table_record.specs.Record.{sendTid}
 use Rattle.codec_encoding.specs.Write.{typeNumber, flagsOf, extraOf, headerOf, formOf, itemOctets, itemsOctets, octetsOf}
-use Rattle.table_ranges.specs.Ranges.{exitBound, outputLeast}
 use Rattle.row_columns.specs.declared.Send.{Send}
 use Rattle.row_columns.specs.declared.Send.the-variants.{Nothing, Invoke, Tidok, LastAck, HoldOn, Tidve, Result, Abort}
 use Rattle.step_sending.specs.declared.Sender.{Sender}

@@ -4,11 +4,11 @@ use mathlib.Core.Path.{_≡_}
 use mathlib.Core.List.{List, [], _∷_}
 use lib.ListN.{length}
 use lib.Dec.{ltb, eqb}
+use Rattle.base_layout.specs.Layout.{exitBound, cellSize, outputLeast}
 use Rattle.base_lists.specs.Seq.{pick, bit, part}
 use Rattle.base_numbers.specs.declared.Verdict.the-variants.{Sound}
 use Rattle.codec_pdu.specs.declared.Pdu.{Pdu}
 use Rattle.codec_encoding.specs.Write.{Fit, faultOf, octetsOf}
-use Rattle.table_ranges.specs.Ranges.{exitBound, cellSize, outputLeast}
 use Rattle.row_columns.specs.declared.Send.{Send}
 use Rattle.row_columns.specs.declared.Send.the-variants.{Nothing, Invoke, Tidok, LastAck, HoldOn, Tidve, Result, Abort}
 use Rattle.step_sending.specs.declared.Sender.{Sender}

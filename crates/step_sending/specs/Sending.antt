@@ -4,6 +4,7 @@ use mathlib.Core.List.{List, _∷_}
 use mathlib.Core.Bool.{Bool, true, false}
 use lib.ListN.{replicate}
 use lib.Dec.{ltb, eqb}
+use Rattle.base_layout.specs.Layout.{tidCount}
 use Rattle.base_lists.specs.Seq.{pick}
 use Rattle.base_numbers.specs.declared.Malformed.the-variants.{D2}
 use Rattle.codec_items.specs.declared.Item.{Item}
@@ -21,7 +22,7 @@ use Rattle.step_sending.specs.declared.Source.the-variants as Source
 
 -- 01: "The top bit is 0 towards the responder, 1 towards the initiator", over the low 15 bits
 unfoldable pub tidOf : Sender → ℕ
-tidOf by = sendTid (by .role) (by .tid % 32768)
+tidOf by = sendTid (by .role) (by .tid % tidCount)
 
 -- a PDU without items: its user data is the len octets from start on
 unfoldable pub plainPdu : Kind → Sender → ℕ → ℕ → Pdu

@@ -33,7 +33,7 @@ fn tid_of(by: Sender) -> u16
     ensures { λ r. ⌜ r ≡ tidOf by ⌝ }
 {
     let role = by.role;
-    table_record::send_tid(role, by.tid % 32768).0
+    table_record::send_tid(role, by.tid % base_layout::TID_COUNT).0
 }
 
 fn plain(kind: Kind, by: Sender, start: usize, len: usize) -> Pdu

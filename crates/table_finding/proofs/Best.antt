@@ -6,8 +6,9 @@ use Prim.Native.Nat.{ℕ, suc, _+_, _-_, _≤_, _<_}
 use native.Mathlib.Omega.{arith}
 use lib.ListN.{length}
 use lib.Dec.{ltb}
+use Rattle.base_layout.specs.Layout.{recordSize, base}
 use Rattle.base_lists.specs.Seq.{pick}
-use Rattle.table_layout.specs.Table.{base, recordSize, recordAt}
+use Rattle.table_layout.specs.Table.{recordAt}
 use Rattle.table_finding.specs.Finding.{isDue, earlierOf, betterOf, best, Within}
 use Rattle.table_finding.specs.declared.Found.{Found}
 use Rattle.table_finding.specs.declared.Found.the-variants.{At, Nothing}

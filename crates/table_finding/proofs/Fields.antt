@@ -7,6 +7,7 @@ use native.Mathlib.Omega.{arith}
 use lib.ListN.{getD}
 use lib.Dec.{leb, eqb}
 use borrow.Author.Tests.{ne-eqb, eqb-true}
+use Rattle.base_layout.specs.Layout.{fieldsSize, tidOffset, deadlineOffset, base, stateBound}
 use Rattle.base_lists.specs.Seq.{pick, every}
 use Rattle.base_lists.proofs.Laws.{every-at}
 use Rattle.base_octets.specs.Octets.{num, gets}
@@ -16,7 +17,7 @@ use Rattle.table_record.specs.declared.Role.the-variants.{Initiator, Responder}
 use Rattle.table_record.specs.declared.State.{State}
 use Rattle.table_record.specs.declared.State.the-variants.{Free, IResultWait1, IResultWait2, IResultRespWait, IWaitTimeout, RTidokWait1, RTidokWait2, RInvokeRespWait1, RInvokeRespWait2, RResultWait, RResultRespWait, RWaitTimeout}
 use Rattle.table_record.specs.declared.Record.{Record}
-use Rattle.table_layout.specs.Table.{base, recordAt}
+use Rattle.table_layout.specs.Table.{recordAt}
 use Rattle.table_finding.specs.Finding.{hasRole}
 
 -- a part of the octets that were taken
@@ -34,15 +35,15 @@ module _ (t : List ℕ) (i : ℕ) where
 
   pub tid-read : recordAt t i .tid ≡ num (gets 2 (base i + 2) t)
   unfolding recordAt decoded
-  tid-read = ap num (gets-gets 2 2 20 (base i) t (omega arith))
+  tid-read = ap num (gets-gets 2 tidOffset fieldsSize (base i) t (omega arith))
 
   pub deadline-read : recordAt t i .deadline ≡ num (gets 8 (base i + 8) t)
   unfolding recordAt decoded
-  deadline-read = ap num (gets-gets 8 8 20 (base i) t (omega arith))
+  deadline-read = ap num (gets-gets 8 deadlineOffset fieldsSize (base i) t (omega arith))
 
 of-number : (n : ℕ) → n ≤ 11 → stateNumber (stateOf n) ≡ n
 unfolding stateOf every
-of-number n h = eqb-true (stateNumber (stateOf n)) n (every-at (λ (k : ℕ). eqb (stateNumber (stateOf k)) k) 12 refl n (omega arith))
+of-number n h = eqb-true (stateNumber (stateOf n)) n (every-at (λ (k : ℕ). eqb (stateNumber (stateOf k)) k) (stateBound + 1) refl n (omega arith))
 
 beyond : (n k : ℕ) → k < n → eqb n k ≡ false
 beyond n k h = ne-eqb n k (λ (e : n ≡ k). omega arith)

@@ -4,12 +4,13 @@ use mathlib.Core.List.{List}
 use mathlib.Core.Bool.{Bool, true, false, not}
 use lib.ListN.{length}
 use lib.Dec.{ltb, leb, eqb}
+use Rattle.base_layout.specs.Layout.{recordSize, base}
 use Rattle.base_lists.specs.Seq.{pick}
 use Rattle.table_record.specs.Record.{roleOf, stateNumber, roleNumber}
 use Rattle.table_record.specs.declared.Role.{Role}
 use Rattle.table_record.specs.declared.Role.the-variants.{Initiator}
 use Rattle.table_record.specs.declared.Record.{Record}
-use Rattle.table_layout.specs.Table.{base, recordSize, recordAt}
+use Rattle.table_layout.specs.Table.{recordAt}
 use Rattle.table_finding.specs.declared.Found.{Found}
 use Rattle.table_finding.specs.declared.Found.the-variants.{At, Nothing}
 use Rattle.table_finding.specs.declared.Sought.{Sought}

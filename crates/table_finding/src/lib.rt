@@ -2,9 +2,12 @@
 ghost use mathlib.Core.Path.{_≡_};
 ghost use Prim.Native.Nat.{_+_, _*_, _≤_, _<_};
 ghost use lib.ListN.{length};
+ghost use Rattle.base_layout.specs.Layout.{headerSize, recordSize};
 ghost use Rattle.table_record.specs.Record.{stateNumber};
-ghost use Rattle.table_layout.specs.Table.{headerSize, recordSize, recordAt};
+ghost use Rattle.table_layout.specs.Table.{recordAt};
 ghost use Rattle.table_finding.specs.Finding.{isFree, hasRole, isNamed, usesTid, isSought, found, namedOf, freeOf, tidInUse, isDue, Within, earlierOf, dueOf};
+use base_layout::HEADER_SIZE;
+use base_layout::RECORD_SIZE;
 use table_record::Role;
 
 // The place of a record, or that there is none.
@@ -37,29 +40,32 @@ fn state_at(t: &[u8], i: usize) -> u8
     requires { ⌜ headerSize + i * recordSize + recordSize ≤ length (now t) ⌝ }
     ensures { λ r. ⌜ r ≡ stateNumber (recordAt (now (t .entry)) i .state) ⌝ }
 {
-    let n = t[624 + i * 160];
-    if n <= 11 { n } else { 0 }
+    let n = t[HEADER_SIZE + i * RECORD_SIZE];
+    if n <= base_layout::STATE_BOUND { n } else { 0 }
 }
 
 fn peer_at(t: &[u8], i: usize) -> u64
     requires { ⌜ headerSize + i * recordSize + recordSize ≤ length (now t) ⌝ }
     ensures { λ r. ⌜ r ≡ recordAt (now (t .entry)) i .peer ⌝ }
 {
-    wide(t[624 + i * 160 + 1])
+    wide(t[HEADER_SIZE + i * RECORD_SIZE + base_layout::PEER_OFFSET])
 }
 
 fn tid_at(t: &[u8], i: usize) -> u64
     requires { ⌜ headerSize + i * recordSize + recordSize ≤ length (now t) ⌝ }
     ensures { λ r. ⌜ r ≡ recordAt (now (t .entry)) i .tid ⌝ }
 {
-    wide16(base_octets::get16(t, 624 + i * 160 + 2))
+    wide16(base_octets::get16(t, HEADER_SIZE + i * RECORD_SIZE + base_layout::TID_OFFSET))
 }
 
 fn deadline_at(t: &[u8], i: usize) -> u64
     requires { ⌜ headerSize + i * recordSize + recordSize ≤ length (now t) ⌝ }
     ensures { λ r. ⌜ r ≡ recordAt (now (t .entry)) i .deadline ⌝ }
 {
-    base_octets::get64(t, 624 + i * 160 + 8)
+    base_octets::get64(
+        t,
+        HEADER_SIZE + i * RECORD_SIZE + base_layout::DEADLINE_OFFSET,
+    )
 }
 
 // The states of an initiator have the numbers 1 to 4, those of a responder 5 to 11.

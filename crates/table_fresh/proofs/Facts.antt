@@ -5,12 +5,13 @@ use Prim.Native.Nat.{ℕ, zero, suc, _+_, _*_, _-_, _%_, _^_, _≤_, _<_}
 use native.Mathlib.Omega.{arith}
 use lib.ListN.{length, getD, take, drop, length-append}
 use lib.Seq.{take-at, drop-at, getD-append-add}
+use Rattle.base_layout.specs.Layout.{recordSize, cachedAt, headerSpareAt, base}
 use Rattle.base_lists.specs.Seq.{tab}
 use Rattle.base_octets.specs.Octets.{num, enc, gets}
 use Rattle.base_octets.proofs.Laws.{gets-part, num-enc, length-enc}
 use Rattle.table_record.specs.Record.{stateOf, decoded}
 use Rattle.table_record.specs.declared.State.the-variants.{Free}
-use Rattle.table_layout.specs.Table.{recordSize, base, clockOf, genTidOf, settingsOf, fours, rowsOf, cachedOf, recordAt}
+use Rattle.table_layout.specs.Table.{clockOf, genTidOf, settingsOf, fours, rowsOf, cachedOf, recordAt}
 use Rattle.table_fresh.specs.Fresh.{zeros, fourEach, fieldsOf, freshTable}
 use Rattle.table_fresh.proofs.Ranges.{word, AllInRange}
 use Rattle.table_fresh.proofs.Zeros.{length-zeros, getD-zeros}
@@ -53,7 +54,7 @@ pub record FreshFacts (t ws : List ℕ) (first : ℕ) : Type 0 where
   pub gen-tid : genTidOf t ≡ first
   pub settings : settingsOf t ≡ record { «rcr_max» = word ws 0; «aec_max» = word ws 1; a = word ws 2; w = word ws 3 }
   pub rows : rowsOf t ≡ tab (word ws) 9 4 ∷ tab (word ws) 9 13 ∷ []
-  pub spare : (k : ℕ) → 92 ≤ k → k < 112 → getD t k 0 ≡ 0
+  pub spare : (k : ℕ) → headerSpareAt ≤ k → k < cachedAt → getD t k 0 ≡ 0
   pub cached : (peer : ℕ) → cachedOf t peer ≡ 0
   pub free : (i : ℕ) → recordAt t i .state ≡ Free
   pub record-zero : (i k : ℕ) → getD t (base i + k) 0 ≡ 0
@@ -116,7 +117,7 @@ module _ (n : ℕ) (ws : List ℕ) (first : ℕ) where
         settings = settings-read a;
         rows = rows-read a;
         spare = λ k h l. rest-zero k h;
-        cached = λ peer. num-zero 2 (112 + peer * 2) (freshTable n ws first) (λ j l. rest-zero j (omega arith));
+        cached = λ peer. num-zero 2 (cachedAt + peer * 2) (freshTable n ws first) (λ j l. rest-zero j (omega arith));
         free = free-read;
         record-zero = λ i k. rest-zero (base i + k) (omega arith);
       }

@@ -6,8 +6,8 @@ use Prim.Native.Nat.{ℕ, _-_, _/_, _%_, _≤_, _<_}
 use native.Mathlib.Omega.{arith}
 use lib.Dec.{leb}
 use borrow.Author.Tests.{leb-true, le-leb, lt-leb, eqb-true, eq-eqb}
+use Rattle.base_layout.specs.Layout.{headerSize, recordSize, base, recordsBound}
 use Rattle.base_lists.proofs.Laws.{both, both-fst, both-snd}
-use Rattle.table_layout.specs.Table.{headerSize, recordSize, base}
 use Rattle.table_fresh.specs.Fresh.{tableBytes, rightSize}
 
 -- how many records there are, where the size is right
@@ -19,19 +19,19 @@ pub record Sized (len n : ℕ) : Type 0 where
 pub size-told : (len : ℕ) → rightSize len ≡ true → Sized len ((len - headerSize) / recordSize)
 unfolding rightSize
 size-told len e =
-    let a = leb-true 784 len (both-fst _ _ e) in
-    let r = both-snd (leb 784 len) _ e in
-    let b = leb-true len 8304 (both-fst _ _ r) in
-    let c = eqb-true ((len - 624) % 160) 0 (both-snd (leb len 8304) _ r) in
+    let a = leb-true (base 1) len (both-fst _ _ e) in
+    let r = both-snd (leb (base 1) len) _ e in
+    let b = leb-true len (base recordsBound) (both-fst _ _ r) in
+    let c = eqb-true ((len - headerSize) % recordSize) 0 (both-snd (leb len (base recordsBound)) _ r) in
     record { some = omega arith; most = omega arith; exact = omega arith }
 
 pub size-right : (len n : ℕ) → Sized len n → rightSize len ≡ true
 unfolding rightSize
 size-right len n s =
-    let a : 784 ≤ len = omega (arith, s .some, s .exact) in
-    let b : len ≤ 8304 = omega (arith, s .most, s .exact) in
-    let c : (len - 624) % 160 ≡ 0 = omega (arith, s .exact) in
-    both _ _ (le-leb 784 len a) (both _ _ (le-leb len 8304 b) (eq-eqb _ _ c))
+    let a : base 1 ≤ len = omega (arith, s .some, s .exact) in
+    let b : len ≤ base recordsBound = omega (arith, s .most, s .exact) in
+    let c : (len - headerSize) % recordSize ≡ 0 = omega (arith, s .exact) in
+    both _ _ (le-leb (base 1) len a) (both _ _ (le-leb len (base recordsBound) b) (eq-eqb _ _ c))
 
 pub bytes-right : (n : ℕ) → 1 ≤ n → n ≤ 48 → tableBytes n ≡ base n
 unfolding tableBytes

@@ -5,11 +5,11 @@ use Prim.Native.Nat.{ℕ, zero, suc, _+_, _*_, _-_, _/_, _%_, _≤_, _<_}
 use native.Mathlib.Omega.{arith}
 use lib.ListN.{length, getD, take, replicate, length-append, replicate-append-replicate}
 use lib.Seq.{sets-eq, take-append-seam, drop-append-add, drop-append-seam}
+use Rattle.base_layout.specs.Layout.{recordSize, base}
 use Rattle.base_lists.specs.Seq.{put}
 use Rattle.base_lists.proofs.Laws.{put-append, put-nil}
 use Rattle.base_octets.specs.Octets.{enc}
 use Rattle.base_octets.proofs.Laws.{length-enc}
-use Rattle.table_layout.specs.Table.{base, recordSize}
 use Rattle.table_fresh.specs.Fresh.{zeros, fourEach, fieldsOf, freshTable}
 use Rattle.table_fresh.proofs.Zeros.{length-zeros}
 
@@ -46,9 +46,9 @@ put-inside p q r w e =
 zeros-split : (n : ℕ) → zeros (base n) ≡ zeros 8 ++ (zeros 84 ++ zeros (532 + n * recordSize))
 unfolding zeros
 zeros-split n =
-    let e : 624 + n * 160 ≡ 8 + (84 + (532 + n * 160)) = omega arith in
+    let e : base n ≡ 8 + (84 + (532 + n * recordSize)) = omega arith in
     ap (λ (m : ℕ). replicate m 0) e
-    ∙ sym (ap (λ (l : List ℕ). replicate 8 0 ++ l) (replicate-append-replicate 84 (532 + n * 160) 0) ∙ replicate-append-replicate 8 (84 + (532 + n * 160)) 0)
+    ∙ sym (ap (λ (l : List ℕ). replicate 8 0 ++ l) (replicate-append-replicate 84 (532 + n * recordSize) 0) ∙ replicate-append-replicate 8 (84 + (532 + n * recordSize)) 0)
 
 module _ (ws : List ℕ) (first : ℕ) where
   pub length-fields : length (fieldsOf ws first) ≡ 84

@@ -4,25 +4,26 @@ use mathlib.Core.List.{List, [], _++_}
 use mathlib.Core.Bool.{Bool, false}
 use lib.ListN.{length, getD, replicate}
 use lib.Dec.{ltb, leb, eqb}
+use Rattle.base_layout.specs.Layout.{headerSize, recordSize, genTidAt, headerSpareSize, base, intervalBound, maximumBound, tidBound, peers, recordsBound}
 use Rattle.base_numbers.specs.Numbers.{numberOf}
 use Rattle.base_numbers.specs.declared.Refusal.the-variants.{WrongSize, WrongSetting}
 use Rattle.base_lists.specs.Seq.{pick, every}
 use Rattle.base_octets.specs.Octets.{enc}
-use Rattle.table_layout.specs.Table.{headerSize, recordSize, base, count}
+use Rattle.table_layout.specs.Table.{count}
 use Rattle.table_fresh.specs.declared.Fresh.{Fresh}
 use Rattle.table_fresh.specs.declared.Fresh.the-variants.{Made, Refused}
 
 -- 01: "1 to 48 records"; the bytes of a table for so many, else 0
 unfoldable pub tableBytes : ℕ → ℕ
-tableBytes n = pick (leb 1 n) (pick (leb n 48) (headerSize + recordSize * n) 0) 0
+tableBytes n = pick (leb 1 n) (pick (leb n recordsBound) (headerSize + recordSize * n) 0) 0
 
 -- 01, number 1: "fresh-table call: size only"; the size is that of 1 to 48 records
 unfoldable pub rightSize : ℕ → Bool
-rightSize len = pick (leb (base 1) len) (pick (leb len (base 48)) (eqb ((len - headerSize) % recordSize) 0) false) false
+rightSize len = pick (leb (base 1) len) (pick (leb len (base recordsBound)) (eqb ((len - headerSize) % recordSize) 0) false) false
 
 -- 01: "RCR_MAX and AEC_MAX are 0 to 8", words 0 and 1; "The intervals A, W and R are 1 to 86,400,000", words 2 to 21; the others are 0
 unfoldable pub wordOk : ℕ → ℕ → Bool
-wordOk k w = pick (ltb k 2) (leb w 8) (pick (ltb k 22) (pick (leb 1 w) (leb w 86400000) false) (eqb w 0))
+wordOk k w = pick (ltb k 2) (leb w maximumBound) (pick (ltb k 22) (pick (leb 1 w) (leb w intervalBound) false) (eqb w 0))
 
 -- all 32 words are in range
 unfoldable pub wordsOk : List ℕ → Bool
@@ -30,7 +31,7 @@ wordsOk ws = every (λ (k : ℕ). wordOk k (getD ws k 0)) 32
 
 -- 01, number 10: "a setting or first GenTID is out of range"; the settings are 32 words, GenTID is 0 to 32,767
 unfoldable pub inRange : List ℕ → ℕ → Bool
-inRange ws first = pick (eqb (length ws) 32) (pick (wordsOk ws) (leb first 32767) false) false
+inRange ws first = pick (eqb (length ws) 32) (pick (wordsOk ws) (leb first tidBound) false) false
 
 -- 01: "The lowest applicable number is given"
 unfoldable pub freshAnswer : ℕ → List ℕ → ℕ → Fresh
@@ -56,7 +57,7 @@ fieldsOf ws first = enc 2 first ++ (enc 1 (getD ws 0 0) ++ (enc 1 (getD ws 1 0) 
 
 -- 01: the fresh-table call "leaves no live record, no cached TID and clock 0": the clock, the fields, 20 spare octets, 256 cached TIDs of 2, n records
 unfoldable pub freshTable : ℕ → List ℕ → ℕ → List ℕ
-freshTable n ws first = zeros 8 ++ (fieldsOf ws first ++ zeros (20 + 256 * 2 + n * recordSize))
+freshTable n ws first = zeros genTidAt ++ (fieldsOf ws first ++ zeros (headerSpareSize + peers * 2 + n * recordSize))
 
 -- 01: "A refusal gives only its number and changes no lent byte"
 unfoldable pub tableAfter : Fresh → List ℕ → List ℕ → ℕ → List ℕ

@@ -2,11 +2,27 @@
 ghost use mathlib.Core.Path.{_≡_};
 ghost use Prim.Native.Nat.{_+_, _≤_};
 ghost use lib.ListN.{length};
+ghost use Rattle.base_layout.specs.Layout.{aAt, headerSpareAt, base};
 ghost use Rattle.base_lists.specs.Seq.{put};
 ghost use Rattle.base_octets.specs.Octets.{enc};
-ghost use Rattle.table_layout.specs.Table.{base, count};
+ghost use Rattle.table_layout.specs.Table.{count};
 ghost use Rattle.table_fresh.specs.Fresh.{tableBytes, rightSize, wordOk, wordsOk, inRange, freshAnswer, zeros, fourEach, freshTable, left, leftBy};
+use base_layout::HEADER_SIZE;
+use base_layout::RECORD_SIZE;
 use base_numbers::Refusal;
+
+// Sizes and bounds as wide as the words.
+const HEADER_BYTES: u64 = HEADER_SIZE as u64;
+
+const RECORD_BYTES: u64 = RECORD_SIZE as u64;
+
+const RECORDS_BOUND: u64 = base_layout::RECORDS_BOUND as u64;
+
+const MAXIMUM_BOUND: u64 = base_layout::MAXIMUM_BOUND as u64;
+
+const INTERVAL_BOUND: u64 = base_layout::INTERVAL_BOUND as u64;
+
+const TID_BOUND: u64 = base_layout::TID_BOUND as u64;
 
 pub enum Fresh {
     Made,
@@ -18,8 +34,8 @@ pub fn table_bytes(records: u64) -> u64
     ensures { λ r. ⌜ r ≡ tableBytes records ⌝ }
 {
     if 1 <= records {
-        if records <= 48 {
-            624 + 160 * records
+        if records <= RECORDS_BOUND {
+            HEADER_BYTES + RECORD_BYTES * records
         } else {
             0
         }
@@ -31,9 +47,9 @@ pub fn table_bytes(records: u64) -> u64
 fn right_size(len: usize) -> bool
     ensures { λ r. ⌜ r ≡ rightSize len ⌝ }
 {
-    if 784 <= len {
-        if len <= 8304 {
-            (len - 624) % 160 == 0
+    if base_layout::TABLE_LEAST <= len {
+        if len <= base_layout::TABLE_MOST {
+            (len - HEADER_SIZE) % RECORD_SIZE == 0
         } else {
             false
         }
@@ -47,10 +63,10 @@ fn word_ok(k: usize, w: u64) -> bool
     ensures { λ r. ⌜ r ≡ wordOk k w ⌝ }
 {
     if k < 2 {
-        return w <= 8;
+        return w <= MAXIMUM_BOUND;
     }
     if k < 22 {
-        if 1 <= w { w <= 86400000 } else { false }
+        if 1 <= w { w <= INTERVAL_BOUND } else { false }
     } else {
         w == 0
     }
@@ -75,7 +91,11 @@ fn in_range(ws: &[u64], first: u64) -> bool
     ensures { λ r. ⌜ r ≡ inRange (now (ws .entry)) first ⌝ }
 {
     if ws.len() == 32 {
-        if words_ok(ws) { first <= 32767 } else { false }
+        if words_ok(ws) {
+            first <= TID_BOUND
+        } else {
+            false
+        }
     } else {
         false
     }
@@ -116,12 +136,12 @@ fn put_number(t: &mut [u8], at: usize, width: usize, v: u64)
 
 // A, W and the 18 R.
 fn put_intervals(t: &mut [u8], ws: &[u64])
-    requires { ⌜ (92 ≤ length (now t)) × (22 ≤ length (now ws)) ⌝ }
-    ensures { λ _. ⌜ now (t .exit) ≡ put (now (t .entry)) 12 (fourEach 20 2 (now (ws .entry))) ⌝ }
+    requires { ⌜ (headerSpareAt ≤ length (now t)) × (22 ≤ length (now ws)) ⌝ }
+    ensures { λ _. ⌜ now (t .exit) ≡ put (now (t .entry)) aAt (fourEach 20 2 (now (ws .entry))) ⌝ }
 {
     let mut k = 0;
     while k < 20 {
-        put_number(t, 12 + k * 4, 4, ws[2 + k]);
+        put_number(t, base_layout::A_AT + k * 4, 4, ws[2 + k]);
         k += 1;
     }
 }
@@ -131,9 +151,9 @@ fn put_fresh(t: &mut [u8], ws: &[u64], first: u64)
     ensures { λ _. ⌜ now (t .exit) ≡ freshTable (count (now (t .entry))) (now (ws .entry)) first ⌝ }
 {
     clear(t);
-    put_number(t, 8, 2, first);
-    put_number(t, 10, 1, ws[0]);
-    put_number(t, 11, 1, ws[1]);
+    put_number(t, base_layout::GEN_TID_AT, 2, first);
+    put_number(t, base_layout::RCR_MAX_AT, 1, ws[0]);
+    put_number(t, base_layout::AEC_MAX_AT, 1, ws[1]);
     put_intervals(t, ws);
 }
 

@@ -8,15 +8,16 @@ use native.Mathlib.Nat.{add-zero, zero-add}
 use lib.ListN.{getD}
 use lib.Dec.{leb}
 use borrow.Author.Tests.{leb-true, le-leb}
+use Rattle.base_layout.specs.Layout.{headerSpareAt, headerSpareSize, cachedBound, peers}
 use Rattle.base_lists.proofs.Laws.{every-all, every-at}
 use Rattle.base_lists.specs.Seq.{every}
 use Rattle.base_octets.specs.Octets.{num, gets}
 use Rattle.table_layout.specs.Table.{fours, rowsOf, settingsOf, cachedOf}
 use Rattle.table_layout.specs.declared.Settings.{Settings}
-use Rattle.table_ranges.specs.Ranges.{Interval, interval, peers}
+use Rattle.table_ranges.specs.Ranges.{Interval, interval}
 use Rattle.table_ranges.proofs.Tests.{Each, each, all, interval-to, interval-from}
 use Rattle.table_ranges.proofs.Zeros.{zeros-to, zeros-from}
-use Rattle.table_header_ok.specs.Header.{SettingsOk, RowsOk, HeaderOk, settingsTests, settingsOk, intervalAt, headerTests, headerOk, spareStart, spareSize, cachedBound}
+use Rattle.table_header_ok.specs.Header.{SettingsOk, RowsOk, HeaderOk, settingsTests, settingsOk, intervalAt, headerTests, headerOk}
 
 fours-at : (n at k : ℕ) (t : List ℕ) → k < n → getD (fours n at t) k 0 ≡ num (gets 4 (at + k * 4) t)
 unfolding fours
@@ -69,7 +70,7 @@ header-to t h =
       clock = leb-true _ _ (e .0);
       gen-tid = leb-true _ _ (e .1 .0);
       settings = settings-to (settingsOf t) (e .1 .1 .0);
-      spare = zeros-to t spareStart spareSize (e .1 .1 .1 .0);
+      spare = zeros-to t headerSpareAt headerSpareSize (e .1 .1 .1 .0);
       rows = rows-to t (e .1 .1 .1 .1 .0);
       cached = λ p l. leb-true _ _ (every-at (λ p. leb (cachedOf t p) cachedBound) peers (e .1 .1 .1 .1 .1) p l);
     }
@@ -84,7 +85,7 @@ header-from t h =
         (
           settings-from (settingsOf t) (h .settings),
           (
-            zeros-from t spareStart spareSize (h .spare),
+            zeros-from t headerSpareAt headerSpareSize (h .spare),
             (rows-from t (h .rows), every-all (λ p. leb (cachedOf t p) cachedBound) peers (λ p l. le-leb _ _ (h .cached p l))),
           ),
         ),

@@ -4,22 +4,12 @@ use mathlib.Core.List.{List, [], _∷_}
 use mathlib.Core.Bool.{Bool}
 use lib.ListN.{getD}
 use lib.Dec.{leb}
+use Rattle.base_layout.specs.Layout.{row1At, headerSpareAt, headerSpareSize, timeBound, maximumBound, tidBound, cachedBound, peers}
 use Rattle.base_lists.specs.Seq.{every}
 use Rattle.base_octets.specs.Octets.{num, gets}
 use Rattle.table_layout.specs.Table.{clockOf, genTidOf, settingsOf, rowsOf, cachedOf}
 use Rattle.table_layout.specs.declared.Settings.{Settings}
-use Rattle.table_ranges.specs.Ranges.{timeBound, tidBound, maximumBound, peers, Interval, interval, Zeros, zeros, allOf}
-
--- where the header's spare octets lie, and how many they are
-abbrev pub spareStart : ℕ
-spareStart = 92
-
-abbrev pub spareSize : ℕ
-spareSize = 20
-
--- the cached TID of a peer is 0 or a TID and 1
-abbrev pub cachedBound : ℕ
-cachedBound = tidBound + 1
+use Rattle.table_ranges.specs.Ranges.{Interval, interval, Zeros, zeros, allOf}
 
 -- 01: "RCR_MAX and AEC_MAX are 0 to 8. The intervals A, W and R are 1 to 86,400,000"
 pub record SettingsOk (s : Settings) : Type 0 where
@@ -37,7 +27,7 @@ pub record HeaderOk (t : List ℕ) : Type 0 where
   pub clock : clockOf t ≤ timeBound
   pub gen-tid : genTidOf t ≤ tidBound
   pub settings : SettingsOk (settingsOf t)
-  pub spare : Zeros t spareStart spareSize
+  pub spare : Zeros t headerSpareAt headerSpareSize
   pub rows : RowsOk (rowsOf t)
   pub cached : (peer : ℕ) → peer < peers → cachedOf t peer ≤ cachedBound
 
@@ -50,7 +40,7 @@ settingsOk s = allOf (settingsTests s)
 
 -- the k-th of the 18 intervals, row after row
 unfoldable pub intervalAt : List ℕ → ℕ → ℕ
-intervalAt t k = num (gets 4 (20 + k * 4) t)
+intervalAt t k = num (gets 4 (row1At + k * 4) t)
 
 -- the test of the header
 abbrev pub headerTests : List ℕ → List Bool
@@ -58,7 +48,7 @@ headerTests t =
     leb (clockOf t) timeBound
     ∷ leb (genTidOf t) tidBound
     ∷ settingsOk (settingsOf t)
-    ∷ zeros t spareStart spareSize
+    ∷ zeros t headerSpareAt headerSpareSize
     ∷ every (λ k. interval (intervalAt t k)) 18
     ∷ every (λ peer. leb (cachedOf t peer) cachedBound) peers
     ∷ []

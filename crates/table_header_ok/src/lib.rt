@@ -3,11 +3,16 @@ ghost use mathlib.Core.Path.{_≡_};
 ghost use Prim.Native.Nat.{_≤_, _<_};
 ghost use lib.ListN.{length};
 ghost use lib.Dec.{leb};
+ghost use Rattle.base_layout.specs.Layout.{headerSize, headerSpareAt, headerSpareSize, cachedBound, peers};
 ghost use Rattle.base_lists.specs.Seq.{every, pick};
-ghost use Rattle.table_layout.specs.Table.{headerSize, cachedOf};
-ghost use Rattle.table_ranges.specs.Ranges.{interval, zeros, peers};
-ghost use Rattle.table_header_ok.specs.Header.{spareStart, spareSize, cachedBound, settingsOk, intervalAt, headerOk};
+ghost use Rattle.table_layout.specs.Table.{cachedOf};
+ghost use Rattle.table_ranges.specs.Ranges.{interval, zeros};
+ghost use Rattle.table_header_ok.specs.Header.{settingsOk, intervalAt, headerOk};
+use base_layout::HEADER_SPARE_AT;
 use table_layout::Settings;
+
+// The spare octets after the first four, as words of eight.
+const SPARE_WORDS_AT: usize = HEADER_SPARE_AT + 4;
 
 pub fn settings_ok(s: Settings) -> bool
     ensures { λ r. ⌜ r ≡ settingsOk s ⌝ }
@@ -26,12 +31,12 @@ pub fn settings_ok(s: Settings) -> bool
 
 fn spare_ok(t: &[u8]) -> bool
     requires { ⌜ headerSize ≤ length (now t) ⌝ }
-    ensures { λ r. ⌜ r ≡ zeros (now (t .entry)) spareStart spareSize ⌝ }
+    ensures { λ r. ⌜ r ≡ zeros (now (t .entry)) headerSpareAt headerSpareSize ⌝ }
 {
-    if !table_ranges::zero4(t, 92) {
+    if !table_ranges::zero4(t, HEADER_SPARE_AT) {
         return false;
     }
-    table_ranges::zero_words(t, 96, 2)
+    table_ranges::zero_words(t, SPARE_WORDS_AT, 2)
 }
 
 fn rows_ok(t: &[u8]) -> bool
@@ -40,7 +45,7 @@ fn rows_ok(t: &[u8]) -> bool
 {
     let mut k = 0;
     while k < 18 {
-        if !table_ranges::interval_ok(base_octets::get32(t, 20 + k * 4)) {
+        if !table_ranges::interval_ok(base_octets::get32(t, base_layout::ROW_1_AT + k * 4)) {
             return false;
         }
         k += 1;
@@ -53,7 +58,7 @@ fn over(t: &[u8], peer: usize) -> u16
     requires { ⌜ (headerSize ≤ length (now t)) × (peer < peers) ⌝ }
     ensures { λ r. ⌜ r ≡ pick (leb (cachedOf (now (t .entry)) peer) cachedBound) 0 1 ⌝ }
 {
-    if table_layout::cached_of(t, peer) <= 32768 {
+    if table_layout::cached_of(t, peer) <= base_layout::CACHED_BOUND {
         0
     } else {
         1
@@ -67,7 +72,7 @@ fn cached_ok(t: &[u8]) -> bool
 {
     let mut marks = 0u16;
     let mut peer = 0;
-    while peer < 256 {
+    while peer < base_layout::PEERS {
         marks = marks | over(t, peer);
         peer += 1;
     }

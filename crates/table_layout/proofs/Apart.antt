@@ -5,11 +5,12 @@ use mathlib.Core.Logic.{inl, inr}
 use Prim.Native.Nat.{ℕ, zero, suc, _+_, _*_, _≤_}
 use native.Mathlib.Omega.{arith}
 use lib.ListN.{length, getD}
+use Rattle.base_layout.specs.Layout.{fieldsSize, cachedAt, base}
 use Rattle.base_lists.specs.Seq.{put}
 use Rattle.base_octets.specs.Octets.{num}
 use Rattle.base_octets.proofs.Laws.{Apart, gets-apart, getD-before, getD-after}
 use Rattle.table_record.specs.Record.{decoded}
-use Rattle.table_layout.specs.Table.{base, clockOf, genTidOf, fours, settingsOf, rowsOf, cachedOf, recordAt}
+use Rattle.table_layout.specs.Table.{clockOf, genTidOf, fours, settingsOf, rowsOf, cachedOf, recordAt}
 
 pub clock-apart : (t : List ℕ) (b : ℕ) (w : List ℕ) → 8 ≤ b → clockOf (put t b w) ≡ clockOf t
 unfolding clockOf
@@ -40,10 +41,10 @@ unfolding rowsOf
 rows-apart t b w (inl h) = rw (fours-apart 9 20 t b w (inl (omega arith)), fours-apart 9 56 t b w (inl (omega arith)))
 rows-apart t b w (inr h) = rw (fours-apart 9 20 t b w (inr (omega arith)), fours-apart 9 56 t b w (inr (omega arith)))
 
-pub cached-apart : (t : List ℕ) (b : ℕ) (w : List ℕ) (p : ℕ) → Apart (112 + p * 2) 2 b (length w) → cachedOf (put t b w) p ≡ cachedOf t p
+pub cached-apart : (t : List ℕ) (b : ℕ) (w : List ℕ) (p : ℕ) → Apart (cachedAt + p * 2) 2 b (length w) → cachedOf (put t b w) p ≡ cachedOf t p
 unfolding cachedOf
-cached-apart t b w p h = ap num (gets-apart 2 (112 + p * 2) t b w h)
+cached-apart t b w p h = ap num (gets-apart 2 (cachedAt + p * 2) t b w h)
 
-pub record-apart : (t : List ℕ) (b : ℕ) (w : List ℕ) (i : ℕ) → Apart (base i) 20 b (length w) → recordAt (put t b w) i ≡ recordAt t i
+pub record-apart : (t : List ℕ) (b : ℕ) (w : List ℕ) (i : ℕ) → Apart (base i) fieldsSize b (length w) → recordAt (put t b w) i ≡ recordAt t i
 unfolding recordAt
-record-apart t b w i h = ap decoded (gets-apart 20 (base i) t b w h)
+record-apart t b w i h = ap decoded (gets-apart fieldsSize (base i) t b w h)

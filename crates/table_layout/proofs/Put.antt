@@ -5,41 +5,42 @@ use mathlib.Core.Logic.{inl, inr}
 use Prim.Native.Nat.{ℕ, _+_, _*_, _^_, _≤_, _<_}
 use native.Mathlib.Omega.{arith}
 use lib.ListN.{length, replicate}
+use Rattle.base_layout.specs.Layout.{headerSize, recordSize, fieldsSize, cachedAt, base}
 use Rattle.base_lists.specs.Seq.{put}
 use Rattle.base_octets.specs.Octets.{gets}
 use Rattle.base_octets.proofs.Laws.{Apart, gets-same, apart-rows, number-same}
 use Rattle.table_record.specs.Record.{decoded, octetsOf}
 use Rattle.table_record.specs.declared.Record.{Record}
 use Rattle.table_record.proofs.Back.{Fits, length-octets, decoded-back}
-use Rattle.table_layout.specs.Table.{headerSize, recordSize, base, clockOf, genTidOf, cachedOf, recordAt, putRecord, clearRecord, putClock, putGenTid, putCached}
+use Rattle.table_layout.specs.Table.{clockOf, genTidOf, cachedOf, recordAt, putRecord, clearRecord, putClock, putGenTid, putCached}
 use Rattle.table_layout.proofs.Apart.{record-apart}
 
 pub record-same : (t : List ℕ) (i : ℕ) (r : Record) → base i + recordSize ≤ length t → Fits r → recordAt (putRecord t i r) i ≡ r
 unfolding recordAt putRecord
 record-same t i r h g =
-    let e : length (octetsOf r) ≡ 20 = length-octets r in
+    let e : length (octetsOf r) ≡ fieldsSize = length-octets r in
     ap decoded (ap (λ (n : ℕ). gets n (base i) (put t (base i) (octetsOf r))) (sym e) ∙ gets-same t (base i) (octetsOf r) (omega arith)) ∙ decoded-back r g
 
 -- stretches within two different records do not meet
-pub apart-records : (i j k n l m : ℕ) → (i ≡ j → ⊥) → k + n ≤ 160 → l + m ≤ 160 → Apart (base i + k) n (base j + l) m
+pub apart-records : (i j k n l m : ℕ) → (i ≡ j → ⊥) → k + n ≤ recordSize → l + m ≤ recordSize → Apart (base i + k) n (base j + l) m
 apart-records i j k n l m d a b = go (apart-rows headerSize recordSize i j d) where
-  go : Apart (base i) 160 (base j) 160 → Apart (base i + k) n (base j + l) m
+  go : Apart (base i) recordSize (base j) recordSize → Apart (base i + k) n (base j + l) m
   go (inl h) = inl (omega arith)
   go (inr h) = inr (omega arith)
 
 pub record-other : (t : List ℕ) (i j : ℕ) (r : Record) → (j ≡ i → ⊥) → recordAt (putRecord t i r) j ≡ recordAt t j
 unfolding putRecord
 record-other t i j r d =
-    let e : length (octetsOf r) ≡ 20 = length-octets r in
+    let e : length (octetsOf r) ≡ fieldsSize = length-octets r in
     record-apart t (base i) (octetsOf r) j (go (apart-rows headerSize recordSize j i d) e) where
-      go : Apart (base j) 160 (base i) 160 → length (octetsOf r) ≡ 20 → Apart (base j) 20 (base i) (length (octetsOf r))
+      go : Apart (base j) recordSize (base i) recordSize → length (octetsOf r) ≡ fieldsSize → Apart (base j) fieldsSize (base i) (length (octetsOf r))
       go (inl h) e = inl (omega arith)
       go (inr h) e = inr (omega arith)
 
 pub clear-other : (t : List ℕ) (i j : ℕ) → (j ≡ i → ⊥) → recordAt (clearRecord t i) j ≡ recordAt t j
 unfolding clearRecord
-clear-other t i j d = record-apart t (base i) (replicate 160 0) j (go (apart-rows headerSize recordSize j i d)) where
-  go : Apart (base j) 160 (base i) 160 → Apart (base j) 20 (base i) 160
+clear-other t i j d = record-apart t (base i) (replicate recordSize 0) j (go (apart-rows headerSize recordSize j i d)) where
+  go : Apart (base j) recordSize (base i) recordSize → Apart (base j) fieldsSize (base i) recordSize
   go (inl h) = inl (omega arith)
   go (inr h) = inr (omega arith)
 
@@ -53,4 +54,4 @@ gen-tid-same t v h g = number-same 2 t 8 v (omega arith) g
 
 pub cached-same : (t : List ℕ) (p v : ℕ) → headerSize ≤ length t → p < 256 → v < 65536 → cachedOf (putCached t p v) p ≡ v
 unfolding cachedOf putCached
-cached-same t p v h k g = number-same 2 t (112 + p * 2) v (omega arith) g
+cached-same t p v h k g = number-same 2 t (cachedAt + p * 2) v (omega arith) g

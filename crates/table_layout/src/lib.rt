@@ -2,7 +2,10 @@
 ghost use mathlib.Core.Path.{_≡_};
 ghost use Prim.Native.Nat.{_+_, _*_, _≤_, _<_};
 ghost use lib.ListN.{length};
-ghost use Rattle.table_layout.specs.Table.{headerSize, recordSize, clockOf, genTidOf, settingsOf, fours, rowsOf, cachedOf, recordAt, putRecord, clearRecord, putClock, putGenTid, putCached};
+ghost use Rattle.base_layout.specs.Layout.{headerSize, recordSize, peers};
+ghost use Rattle.table_layout.specs.Table.{clockOf, genTidOf, settingsOf, fours, rowsOf, cachedOf, recordAt, putRecord, clearRecord, putClock, putGenTid, putCached};
+use base_layout::HEADER_SIZE;
+use base_layout::RECORD_SIZE;
 use table_record::Record;
 
 // 01, "What the reader carries": the settings, but for the two rows of intervals R.
@@ -17,14 +20,14 @@ pub fn clock_of(t: &[u8]) -> u64
     requires { ⌜ headerSize ≤ length (now t) ⌝ }
     ensures { λ r. ⌜ r ≡ clockOf (now (t .entry)) ⌝ }
 {
-    base_octets::get64(t, 0)
+    base_octets::get64(t, base_layout::CLOCK_AT)
 }
 
 pub fn gen_tid_of(t: &[u8]) -> u16
     requires { ⌜ headerSize ≤ length (now t) ⌝ }
     ensures { λ r. ⌜ r ≡ genTidOf (now (t .entry)) ⌝ }
 {
-    base_octets::get16(t, 8)
+    base_octets::get16(t, base_layout::GEN_TID_AT)
 }
 
 pub fn settings_of(t: &[u8]) -> Settings
@@ -32,10 +35,10 @@ pub fn settings_of(t: &[u8]) -> Settings
     ensures { λ r. ⌜ r ≡ settingsOf (now (t .entry)) ⌝ }
 {
     Settings {
-        rcr_max: t[10],
-        aec_max: t[11],
-        a: base_octets::get32(t, 12),
-        w: base_octets::get32(t, 16),
+        rcr_max: t[base_layout::RCR_MAX_AT],
+        aec_max: t[base_layout::AEC_MAX_AT],
+        a: base_octets::get32(t, base_layout::A_AT),
+        w: base_octets::get32(t, base_layout::W_AT),
     }
 }
 
@@ -60,25 +63,25 @@ pub fn rows_of(t: &[u8]) -> [[u32; 9]; 2]
     requires { ⌜ headerSize ≤ length (now t) ⌝ }
     ensures { λ r. ⌜ r ≡ rowsOf (now (t .entry)) ⌝ }
 {
-    let one = row_of(t, 20);
-    let two = row_of(t, 56);
+    let one = row_of(t, base_layout::ROW_1_AT);
+    let two = row_of(t, base_layout::ROW_2_AT);
     [one, two]
 }
 
 // The cached TID of a peer: 0 is none, else the TID and 1.
 pub fn cached_of(t: &[u8], peer: usize) -> u16
-    requires { ⌜ (headerSize ≤ length (now t)) × (peer < 256) ⌝ }
+    requires { ⌜ (headerSize ≤ length (now t)) × (peer < peers) ⌝ }
     ensures { λ r. ⌜ r ≡ cachedOf (now (t .entry)) peer ⌝ }
 {
-    base_octets::get16(t, 112 + peer * 2)
+    base_octets::get16(t, base_layout::CACHED_AT + peer * 2)
 }
 
 pub fn record_at(t: &[u8], i: usize) -> Record
     requires { ⌜ headerSize + i * recordSize + recordSize ≤ length (now t) ⌝ }
     ensures { λ r. ⌜ r ≡ recordAt (now (t .entry)) i ⌝ }
 {
-    let at = 624 + i * 160;
-    table_record::decode(&t[at..at + 20])
+    let at = HEADER_SIZE + i * RECORD_SIZE;
+    table_record::decode(&t[at..at + base_layout::FIELDS_SIZE])
 }
 
 pub fn put_record(t: &mut [u8], i: usize, r: Record)
@@ -86,15 +89,15 @@ pub fn put_record(t: &mut [u8], i: usize, r: Record)
     ensures { λ _. ⌜ now (t .exit) ≡ putRecord (now (t .entry)) i r ⌝ }
 {
     let w = table_record::encode(r);
-    base_lists::store(t, 624 + i * 160, &w);
+    base_lists::store(t, HEADER_SIZE + i * RECORD_SIZE, &w);
 }
 
 pub fn clear_record(t: &mut [u8], i: usize)
     requires { ⌜ headerSize + i * recordSize + recordSize ≤ length (now t) ⌝ }
     ensures { λ _. ⌜ now (t .exit) ≡ clearRecord (now (t .entry)) i ⌝ }
 {
-    let w = [0u8; 160];
-    base_lists::store(t, 624 + i * 160, &w);
+    let w = [0u8; RECORD_SIZE];
+    base_lists::store(t, HEADER_SIZE + i * RECORD_SIZE, &w);
 }
 
 pub fn put_clock(t: &mut [u8], time: u64)
@@ -102,7 +105,7 @@ pub fn put_clock(t: &mut [u8], time: u64)
     ensures { λ _. ⌜ now (t .exit) ≡ putClock (now (t .entry)) time ⌝ }
 {
     let w = base_octets::bytes64(time);
-    base_lists::store(t, 0, &w);
+    base_lists::store(t, base_layout::CLOCK_AT, &w);
 }
 
 pub fn put_gen_tid(t: &mut [u8], tid: u16)
@@ -110,13 +113,13 @@ pub fn put_gen_tid(t: &mut [u8], tid: u16)
     ensures { λ _. ⌜ now (t .exit) ≡ putGenTid (now (t .entry)) tid ⌝ }
 {
     let w = base_octets::bytes16(tid);
-    base_lists::store(t, 8, &w);
+    base_lists::store(t, base_layout::GEN_TID_AT, &w);
 }
 
 pub fn put_cached(t: &mut [u8], peer: usize, cached: u16)
-    requires { ⌜ (headerSize ≤ length (now t)) × (peer < 256) ⌝ }
+    requires { ⌜ (headerSize ≤ length (now t)) × (peer < peers) ⌝ }
     ensures { λ _. ⌜ now (t .exit) ≡ putCached (now (t .entry)) peer cached ⌝ }
 {
     let w = base_octets::bytes16(cached);
-    base_lists::store(t, 112 + peer * 2, &w);
+    base_lists::store(t, base_layout::CACHED_AT + peer * 2, &w);
 }

@@ -9,6 +9,7 @@ use lib.ListN.{length, getD, replicate, set, length-set}
 use lib.Seq.{getD-set-same, getD-set-other}
 use lib.Dec.{eqb}
 use borrow.Author.Tests.{eqb-true, eqb-false, eq-eqb, ne-eqb, not-true}
+use Rattle.base_layout.specs.Layout.{recordsBound}
 use Rattle.base_lists.specs.Seq.{pick, every}
 use Rattle.base_lists.proofs.Laws.{told, not-so, true-false, below-or-last, every-all, every-at, lt-or-le}
 use Rattle.base_lists.proofs.Every.{same-test}
@@ -17,7 +18,6 @@ use Rattle.table_record.specs.declared.Record.{Record}
 use Rattle.table_record.specs.declared.Role.{Role}
 use Rattle.table_record.specs.declared.Role.the-variants.{Initiator, Responder}
 use Rattle.table_layout.specs.Table.{recordAt}
-use Rattle.table_ranges.specs.Ranges.{recordsBound}
 use Rattle.table_record_ok.specs.OneRecord.{Live}
 use Rattle.table_names_ok.specs.Names.{clash, newName, keyOf, Keyed, newKey}
 use Rattle.table_names_ok.proofs.Meaning.{role-back, clash-to, clash-from}

@@ -5,11 +5,12 @@ use mathlib.Core.Bool.{Bool, true, not}
 use mathlib.Core.Path.{_≡_}
 use lib.ListN.{getD}
 use lib.Dec.{leb, eqb}
+use Rattle.base_layout.specs.Layout.{recordsBound}
 use Rattle.base_lists.specs.Seq.{pick, every}
 use Rattle.table_record.specs.Record.{roleOf, roleNumber, stateNumber}
 use Rattle.table_record.specs.declared.Record.{Record}
 use Rattle.table_layout.specs.Table.{recordAt}
-use Rattle.table_ranges.specs.Ranges.{recordsBound, allOf}
+use Rattle.table_ranges.specs.Ranges.{allOf}
 use Rattle.table_record_ok.specs.OneRecord.{Live}
 
 -- one role, peer and TID

@@ -4,11 +4,11 @@ ghost use mathlib.Core.Bool.{not};
 ghost use Prim.Native.Nat.{_+_, _*_, _≤_, _<_};
 ghost use lib.ListN.{length};
 ghost use lib.Dec.{eqb};
+ghost use Rattle.base_layout.specs.Layout.{headerSize, recordSize, recordsBound};
 ghost use Rattle.base_lists.specs.Seq.{pick};
 ghost use Rattle.table_record.specs.Record.{roleNumber};
-ghost use Rattle.table_layout.specs.Table.{headerSize, recordSize};
-ghost use Rattle.table_ranges.specs.Ranges.{recordsBound};
 ghost use Rattle.table_names_ok.specs.Names.{Keyed, newKey, namesOk};
+use base_layout::RECORDS_BOUND;
 use table_record::Record;
 use table_record::Role;
 
@@ -54,7 +54,7 @@ fn same(a: u32, b: u32) -> u32
 }
 
 // Gathered over all places without an early exit: four keys are tested at once.
-pub fn new_key(keys: &[u32; 48], k: u32) -> bool
+pub fn new_key(keys: &[u32; RECORDS_BOUND], k: u32) -> bool
     ensures { λ r. ⌜ r ≡ newKey (now (keys .entry)) k ⌝ }
 {
     if k == 0 {
@@ -62,7 +62,7 @@ pub fn new_key(keys: &[u32; 48], k: u32) -> bool
     }
     let mut marks = 0u32;
     let mut j = 0;
-    while j < 48 {
+    while j < RECORDS_BOUND {
         marks = marks | same(keys[j], k);
         j += 1;
     }
@@ -74,7 +74,7 @@ pub fn names_ok(t: &[u8], n: usize) -> bool
     requires { ⌜ (headerSize + n * recordSize ≤ length (now t)) × (n ≤ recordsBound) ⌝ }
     ensures { λ r. ⌜ r ≡ namesOk (now (t .entry)) n ⌝ }
 {
-    let mut keys = [0u32; 48];
+    let mut keys = [0u32; RECORDS_BOUND];
     let mut i = 0;
     while i < n {
         let k = key_of(table_layout::record_at(t, i));

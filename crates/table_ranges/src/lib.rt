@@ -3,32 +3,37 @@ ghost use mathlib.Core.Path.{_≡_};
 ghost use Prim.Native.Nat.{_+_, _*_, _≤_};
 ghost use lib.ListN.{length};
 ghost use lib.Dec.{leb};
-ghost use Rattle.table_ranges.specs.Ranges.{timeBound, tidBound, maximumBound, interval, zeros};
+ghost use Rattle.base_layout.specs.Layout.{timeBound, maximumBound, tidBound};
+ghost use Rattle.table_ranges.specs.Ranges.{interval, zeros};
 
 pub fn time_ok(time: u64) -> bool
     ensures { λ r. ⌜ r ≡ leb time timeBound ⌝ }
 {
-    time <= 1000000000000
+    time <= base_layout::TIME_BOUND
 }
 
 pub fn tid_ok(tid: u16) -> bool
     ensures { λ r. ⌜ r ≡ leb tid tidBound ⌝ }
 {
-    tid <= 32767
+    tid <= base_layout::TID_BOUND
 }
 
 // RCR_MAX or AEC_MAX.
 pub fn maximum_ok(n: u8) -> bool
     ensures { λ r. ⌜ r ≡ leb n maximumBound ⌝ }
 {
-    n <= 8
+    n <= base_layout::MAXIMUM_BOUND
 }
 
 // A, W or one of R.
 pub fn interval_ok(v: u32) -> bool
     ensures { λ r. ⌜ r ≡ interval v ⌝ }
 {
-    if 1 <= v { v <= 86400000 } else { false }
+    if 1 <= v {
+        v <= base_layout::INTERVAL_BOUND
+    } else {
+        false
+    }
 }
 
 pub fn zero4(t: &[u8], at: usize) -> bool

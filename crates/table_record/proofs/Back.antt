@@ -5,6 +5,7 @@ use Prim.Native.Nat.{ℕ, _+_, _*_, _/_, _%_, _^_, _<_}
 use native.Mathlib.Omega.{arith}
 use lib.ListN.{length}
 use lib.Dec.{eqb}
+use Rattle.base_layout.specs.Layout.{fieldsSize}
 use Rattle.base_lists.specs.Seq.{bit}
 use Rattle.base_lists.proofs.Laws.{bit-le}
 use Rattle.base_octets.specs.Octets.{enc, gets}
@@ -29,7 +30,7 @@ state-back RResultWait = refl
 state-back RResultRespWait = refl
 state-back RWaitTimeout = refl
 
-pub length-octets : (r : Record) → length (octetsOf r) ≡ 20
+pub length-octets : (r : Record) → length (octetsOf r) ≡ fieldsSize
 unfolding octetsOf enc
 length-octets r = refl
 

@@ -3,6 +3,7 @@ use Prim.Native.Nat.{ℕ, _+_, _*_, _%_, _/_}
 use mathlib.Core.List.{List, [], _∷_, _++_}
 use lib.ListN.{getD}
 use lib.Dec.{eqb}
+use Rattle.base_layout.specs.Layout.{peerOffset, tidOffset, rcrOffset, aecOffset, flagsOffset, exitLenOffset, deadlineOffset, lenOffset, tidCount}
 use Rattle.base_lists.specs.Seq.{pick, bit}
 use Rattle.base_octets.specs.Octets.{num, enc, gets}
 use Rattle.table_record.specs.declared.Role.{Role}
@@ -79,10 +80,10 @@ roleNumber Responder = 1
 -- 01: "The top bit is 0 towards the responder, 1 towards the initiator"
 abbrev pub sendTid : Role → ℕ → ℕ
 sendTid Initiator tid = tid
-sendTid Responder tid = tid + 32768
+sendTid Responder tid = tid + tidCount
 
 abbrev pub rcvTid : Role → ℕ → ℕ
-rcvTid Initiator tid = tid + 32768
+rcvTid Initiator tid = tid + tidCount
 rcvTid Responder tid = tid
 
 -- the four flags in one octet
@@ -93,17 +94,17 @@ flagsOf r = bit (r .«user_ack») + 2 * bit (r .«hold_on») + 4 * bit (r .«tid
 unfoldable pub decoded : List ℕ → Record
 decoded w = record {
   state = stateOf (getD w 0 0);
-  peer = getD w 1 0;
-  tid = num (gets 2 2 w);
-  «user_ack» = eqb (getD w 6 0 % 2) 1;
-  «hold_on» = eqb (getD w 6 0 / 2 % 2) 1;
-  «tidok_sent» = eqb (getD w 6 0 / 4 % 2) 1;
-  «hold_on_sent» = eqb (getD w 6 0 / 8 % 2) 1;
-  rcr = record { 0 = getD w 4 0 };
-  aec = record { 0 = getD w 5 0 };
-  «exit_len» = getD w 7 0;
-  deadline = num (gets 8 8 w);
-  len = num (gets 4 16 w);
+  peer = getD w peerOffset 0;
+  tid = num (gets 2 tidOffset w);
+  «user_ack» = eqb (getD w flagsOffset 0 % 2) 1;
+  «hold_on» = eqb (getD w flagsOffset 0 / 2 % 2) 1;
+  «tidok_sent» = eqb (getD w flagsOffset 0 / 4 % 2) 1;
+  «hold_on_sent» = eqb (getD w flagsOffset 0 / 8 % 2) 1;
+  rcr = record { 0 = getD w rcrOffset 0 };
+  aec = record { 0 = getD w aecOffset 0 };
+  «exit_len» = getD w exitLenOffset 0;
+  deadline = num (gets 8 deadlineOffset w);
+  len = num (gets 4 lenOffset w);
 }
 
 -- the 20 octets of a record

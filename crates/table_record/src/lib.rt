@@ -2,6 +2,7 @@
 ghost use mathlib.Core.Path.{_≡_};
 ghost use Prim.Native.Nat.{_+_, _*_, _≤_, _<_};
 ghost use lib.ListN.{length};
+ghost use Rattle.base_layout.specs.Layout.{fieldsSize, tidCount};
 ghost use Rattle.table_record.specs.Record.{roleOf, classOf, stateNumber, stateOf, flagsOf, decoded, octetsOf, sendTid, rcvTid};
 
 // 01, "Events": which end of the transaction a record is.
@@ -132,21 +133,21 @@ fn state_of(n: u8) -> State
 }
 
 pub fn send_tid(role: Role, tid: u16) -> SendTid
-    requires { ⌜ tid < 32768 ⌝ }
+    requires { ⌜ tid < tidCount ⌝ }
     ensures { λ r. ⌜ r .0 ≡ sendTid role tid ⌝ }
 {
     match role {
         Role::Initiator => SendTid(tid),
-        Role::Responder => SendTid(tid + 32768),
+        Role::Responder => SendTid(tid + base_layout::TID_COUNT),
     }
 }
 
 pub fn rcv_tid(role: Role, tid: u16) -> RcvTid
-    requires { ⌜ tid < 32768 ⌝ }
+    requires { ⌜ tid < tidCount ⌝ }
     ensures { λ r. ⌜ r .0 ≡ rcvTid role tid ⌝ }
 {
     match role {
-        Role::Initiator => RcvTid(tid + 32768),
+        Role::Initiator => RcvTid(tid + base_layout::TID_COUNT),
         Role::Responder => RcvTid(tid),
     }
 }
@@ -162,29 +163,29 @@ fn flags_of(r: Record) -> u8
 
 // The record of 20 octets.
 pub fn decode(w: &[u8]) -> Record
-    requires { ⌜ 20 ≤ length (now w) ⌝ }
+    requires { ⌜ fieldsSize ≤ length (now w) ⌝ }
     ensures { λ r. ⌜ r ≡ decoded (now (w .entry)) ⌝ }
 {
-    let f = w[6];
+    let f = w[base_layout::FLAGS_OFFSET];
     let state = state_of(w[0]);
     Record {
         state: state,
-        peer: w[1],
-        tid: base_octets::get16(w, 2),
+        peer: w[base_layout::PEER_OFFSET],
+        tid: base_octets::get16(w, base_layout::TID_OFFSET),
         user_ack: f % 2 == 1,
         hold_on: f / 2 % 2 == 1,
         tidok_sent: f / 4 % 2 == 1,
         hold_on_sent: f / 8 % 2 == 1,
-        rcr: Rcr(w[4]),
-        aec: Aec(w[5]),
-        exit_len: w[7],
-        deadline: base_octets::get64(w, 8),
-        len: base_octets::get32(w, 16),
+        rcr: Rcr(w[base_layout::RCR_OFFSET]),
+        aec: Aec(w[base_layout::AEC_OFFSET]),
+        exit_len: w[base_layout::EXIT_LEN_OFFSET],
+        deadline: base_octets::get64(w, base_layout::DEADLINE_OFFSET),
+        len: base_octets::get32(w, base_layout::LEN_OFFSET),
     }
 }
 
 // The 20 octets of a record.
-pub fn encode(r: Record) -> [u8; 20]
+pub fn encode(r: Record) -> [u8; base_layout::FIELDS_SIZE]
     ensures { λ w. ⌜ w ≡ octetsOf r ⌝ }
 {
     let state = r.state;

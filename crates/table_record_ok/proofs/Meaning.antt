@@ -9,14 +9,15 @@ use native.Mathlib.Nat.{add-zero}
 use lib.ListN.{getD}
 use lib.Dec.{eqb}
 use borrow.Author.Tests.{leb-true, le-leb, eqb-false, eq-eqb, ne-eqb}
+use Rattle.base_layout.specs.Layout.{recordSize, spareSize, base, spareBase}
 use Rattle.base_lists.proofs.Laws.{told}
 use Rattle.table_record.specs.Record.{stateNumber}
 use Rattle.table_record.specs.declared.Record.{Record}
-use Rattle.table_layout.specs.Table.{recordSize, base, spareBase, recordAt}
+use Rattle.table_layout.specs.Table.{recordAt}
 use Rattle.table_layout.specs.declared.Settings.{Settings}
 use Rattle.table_ranges.proofs.Tests.{Each, each, all}
 use Rattle.table_ranges.proofs.Zeros.{zeros-to, zeros-from}
-use Rattle.table_record_ok.specs.OneRecord.{Live, Bounded, LiveOk, FreeOk, RecordOk, rangeTests, inRange, liveTests, liveOk, recordOk, spareSize}
+use Rattle.table_record_ok.specs.OneRecord.{Live, Bounded, LiveOk, FreeOk, RecordOk, rangeTests, inRange, liveTests, liveOk, recordOk}
 use Rattle.table_record_ok.proofs.States.{octet-known, octet-live}
 
 bounds-to : (s : Settings) (r : Record) → inRange s r ≡ true → Bounded s r

@@ -8,13 +8,14 @@ use native.Mathlib.Omega.{arith}
 use lib.ListN.{getD}
 use lib.Dec.{eqb}
 use borrow.Author.Tests.{eqb-true, ne-eqb}
+use Rattle.base_layout.specs.Layout.{base, stateBound}
 use Rattle.base_lists.proofs.Laws.{every-at, lt-or-le}
 use Rattle.base_lists.specs.Seq.{every}
 use Rattle.base_octets.specs.Octets.{gets}
 use Rattle.table_record.specs.Record.{stateNumber, stateOf, decoded}
 use Rattle.table_record.specs.declared.State.the-variants.{Free}
-use Rattle.table_layout.specs.Table.{base, recordAt}
-use Rattle.table_record_ok.specs.OneRecord.{Live, stateBound}
+use Rattle.table_layout.specs.Table.{recordAt}
+use Rattle.table_record_ok.specs.OneRecord.{Live}
 
 -- computed for all twelve
 number-back : (n : ℕ) → n ≤ stateBound → stateNumber (stateOf n) ≡ n

@@ -5,12 +5,13 @@ use mathlib.Core.Bool.{Bool}
 use mathlib.Core.Logic.{_⊎_}
 use lib.ListN.{getD}
 use lib.Dec.{leb, eqb}
+use Rattle.base_layout.specs.Layout.{recordSize, spareSize, base, flagsAt, spareBase, deadlineBound, tidBound, peerBound, peers, exitBound, cellSize, stateBound, flagsBound}
 use Rattle.base_lists.specs.Seq.{pick}
 use Rattle.table_record.specs.Record.{stateNumber}
 use Rattle.table_record.specs.declared.Record.{Record}
-use Rattle.table_layout.specs.Table.{recordSize, base, spareBase, recordAt}
+use Rattle.table_layout.specs.Table.{recordAt}
 use Rattle.table_layout.specs.declared.Settings.{Settings}
-use Rattle.table_ranges.specs.Ranges.{peers, tidBound, exitBound, deadlineBound, cellSize, Zeros, zeros, allOf}
+use Rattle.table_ranges.specs.Ranges.{Zeros, zeros, allOf}
 
 -- a record is live when its state isn't free
 abbrev pub Live : Record → Type 0
@@ -30,17 +31,6 @@ pub record Bounded (s : Settings) (r : Record) : Type 0 where
 pub record InRange (s : Settings) (r : Record) : Type 0 where
   pub live : Live r
   pub bounds : Bounded s r
-
--- the octet of a record's four flags, and the highest it can be
-abbrev pub flagsAt : ℕ → ℕ
-flagsAt i = base i + 6
-
-abbrev pub flagsBound : ℕ
-flagsBound = 15
-
--- how many spare octets a record has
-abbrev pub spareSize : ℕ
-spareSize = 12
 
 -- a live record is in range, its spare bits and octets zero
 pub record LiveOk (t : List ℕ) (s : Settings) (i : ℕ) : Type 0 where
@@ -64,15 +54,11 @@ rangeTests s r =
     ∷ leb (r .«exit_len») exitBound
     ∷ leb (r .deadline) deadlineBound
     ∷ leb (r .len) cellSize
-    ∷ leb (r .peer) 255
+    ∷ leb (r .peer) peerBound
     ∷ []
 
 unfoldable pub inRange : Settings → Record → Bool
 inRange s r = allOf (rangeTests s r)
-
--- the highest number of a state
-abbrev pub stateBound : ℕ
-stateBound = 11
 
 -- the test of a record whose state octet isn't zero
 abbrev pub liveTests : List ℕ → Settings → ℕ → List Bool

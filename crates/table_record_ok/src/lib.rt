@@ -2,11 +2,25 @@
 ghost use mathlib.Core.Path.{_≡_};
 ghost use Prim.Native.Nat.{_+_, _*_, _≤_};
 ghost use lib.ListN.{length};
-ghost use Rattle.table_layout.specs.Table.{headerSize, recordSize, spareBase};
+ghost use Rattle.base_layout.specs.Layout.{headerSize, recordSize, spareSize, spareBase};
 ghost use Rattle.table_ranges.specs.Ranges.{zeros};
-ghost use Rattle.table_record_ok.specs.OneRecord.{inRange, liveOk, recordOk, spareSize};
+ghost use Rattle.table_record_ok.specs.OneRecord.{inRange, liveOk, recordOk};
+use base_layout::HEADER_SIZE;
+use base_layout::RECORD_SIZE;
 use table_layout::Settings;
 use table_record::Record;
+
+// Bounds as wide as the fields.
+const EXIT_BOUND: u8 = base_layout::EXIT_BOUND as u8;
+
+const CELL_SIZE: u32 = base_layout::CELL_SIZE as u32;
+
+const PEER_BOUND: u8 = base_layout::PEER_BOUND as u8;
+
+// The words of eight octets of a record, and of its spare octets after the first four.
+const RECORD_WORDS: usize = RECORD_SIZE / 8;
+
+const SPARE_WORDS: usize = (base_layout::SPARE_SIZE - 4) / 8;
 
 fn in_range(s: Settings, r: Record) -> bool
     ensures { λ b. ⌜ b ≡ inRange s r ⌝ }
@@ -20,27 +34,27 @@ fn in_range(s: Settings, r: Record) -> bool
     if r.aec.0 > s.aec_max {
         return false;
     }
-    if r.exit_len > 128 {
+    if r.exit_len > EXIT_BOUND {
         return false;
     }
-    if r.deadline > 1000086400000 {
+    if r.deadline > base_layout::DEADLINE_BOUND {
         return false;
     }
-    if r.len > 1024 {
+    if r.len > CELL_SIZE {
         return false;
     }
-    r.peer <= 255
+    r.peer <= PEER_BOUND
 }
 
 fn spare_ok(t: &[u8], i: usize) -> bool
     requires { ⌜ headerSize + i * recordSize + recordSize ≤ length (now t) ⌝ }
     ensures { λ b. ⌜ b ≡ zeros (now (t .entry)) (spareBase i) spareSize ⌝ }
 {
-    let at = 624 + i * 160 + 20;
+    let at = HEADER_SIZE + i * RECORD_SIZE + base_layout::SPARE_OFFSET;
     if !table_ranges::zero4(t, at) {
         return false;
     }
-    table_ranges::zero_words(t, at + 4, 1)
+    table_ranges::zero_words(t, at + 4, SPARE_WORDS)
 }
 
 // A record whose state octet isn't zero.
@@ -48,11 +62,11 @@ fn live_ok(t: &[u8], s: Settings, i: usize) -> bool
     requires { ⌜ headerSize + i * recordSize + recordSize ≤ length (now t) ⌝ }
     ensures { λ b. ⌜ b ≡ liveOk (now (t .entry)) s i ⌝ }
 {
-    let at = 624 + i * 160;
-    if t[at] > 11 {
+    let at = HEADER_SIZE + i * RECORD_SIZE;
+    if t[at] > base_layout::STATE_BOUND {
         return false;
     }
-    if t[at + 6] > 15 {
+    if t[at + base_layout::FLAGS_OFFSET] > base_layout::FLAGS_BOUND {
         return false;
     }
     if !in_range(s, table_layout::record_at(t, i)) {
@@ -65,9 +79,9 @@ pub fn record_ok(t: &[u8], s: Settings, i: usize) -> bool
     requires { ⌜ headerSize + i * recordSize + recordSize ≤ length (now t) ⌝ }
     ensures { λ b. ⌜ b ≡ recordOk (now (t .entry)) s i ⌝ }
 {
-    let at = 624 + i * 160;
+    let at = HEADER_SIZE + i * RECORD_SIZE;
     if t[at] == 0 {
-        return table_ranges::zero_words(t, at, 20);
+        return table_ranges::zero_words(t, at, RECORD_WORDS);
     }
     live_ok(t, s, i)
 }

@@ -3,6 +3,7 @@ use Prim.Native.Nat.{ℕ, _+_, _-_, _%_}
 use mathlib.Core.List.{List, []}
 use lib.ListN.{getD}
 use lib.Dec.{leb, eqb}
+use Rattle.base_layout.specs.Layout.{tidCount}
 use Rattle.base_lists.specs.Seq.{pick}
 use Rattle.table_record.specs.declared.Rcr.{Rcr}
 use Rattle.table_tids.specs.declared.Test.{Test}
@@ -10,7 +11,7 @@ use Rattle.table_tids.specs.declared.Test.the-variants.{Valid, Verified}
 
 -- 01: "the distance d is (TID − LastTID) taken modulo 32,768"; 32,768 is added so that the difference is never below zero
 unfoldable pub distance : ℕ → ℕ → ℕ
-distance tid last = (tid + 32768 - last % 32768) % 32768
+distance tid last = (tid + tidCount - last % tidCount) % tidCount
 
 -- 01: "Valid when 1 ≤ d ≤ 16,383; otherwise, or with nothing cached, verified first"; cached is 0 for nothing, else LastTID + 1
 unfoldable pub testOf : ℕ → ℕ → Test
@@ -22,7 +23,7 @@ testOf cached tid =
 
 -- 01: "GenTID counts modulo 32,768"
 abbrev pub nextTid : ℕ → ℕ
-nextTid tid = (tid + 1) % 32768
+nextTid tid = (tid + 1) % tidCount
 
 -- the row of a class, the first being 0
 abbrev pub rowNumber : ℕ → ℕ

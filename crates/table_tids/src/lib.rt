@@ -2,6 +2,7 @@
 ghost use mathlib.Core.Path.{_≡_};
 ghost use Prim.Native.Nat.{_<_};
 ghost use Rattle.table_tids.specs.Tids.{distance, testOf, nextTid, rowNumber, intervalOf};
+use base_layout::TID_COUNT;
 use table_record::Rcr;
 
 // 01, "TIDs": what the responder's test says of an Invoke's TID.
@@ -14,7 +15,7 @@ pub enum Test {
 fn distance_of(tid: u16, last: u16) -> u16
     ensures { λ r. ⌜ r ≡ distance tid last ⌝ }
 {
-    std::num::wrapping_sub_u16(tid, last) % 32768
+    std::num::wrapping_sub_u16(tid, last) % TID_COUNT
 }
 
 // The test of a TID against what is cached for its peer: 0 is none, else LastTID and 1.
@@ -40,7 +41,7 @@ pub fn tid_test(cached: u16, tid: u16) -> Test
 pub fn next_tid(tid: u16) -> u16
     ensures { λ r. ⌜ r ≡ nextTid tid ⌝ }
 {
-    (tid % 32768 + 1) % 32768
+    (tid % TID_COUNT + 1) % TID_COUNT
 }
 
 // Which of the two rows is that of a class.

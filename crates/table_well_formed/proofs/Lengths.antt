@@ -6,8 +6,8 @@ use Prim.Native.Nat.{ℕ, _+_, _-_, _/_, _≤_, _<_}
 use native.Mathlib.Omega.{arith}
 use lib.ListN.{length}
 use borrow.Author.Tests.{leb-true, eqb-true, le-leb, eq-eqb}
-use Rattle.table_layout.specs.Table.{headerSize, recordSize, base, count}
-use Rattle.table_ranges.specs.Ranges.{recordsBound}
+use Rattle.base_layout.specs.Layout.{headerSize, recordSize, base, recordsBound}
+use Rattle.table_layout.specs.Table.{count}
 use Rattle.table_ranges.proofs.Tests.{Each, each, all}
 use Rattle.table_well_formed.specs.WellFormed.{Sized, lengthTests, lengthOk}
 

@@ -5,9 +5,10 @@ use mathlib.Core.Bool.{Bool}
 use mathlib.Core.Path.{_≡_}
 use lib.ListN.{length}
 use lib.Dec.{leb, eqb}
+use Rattle.base_layout.specs.Layout.{headerSize, recordSize, base, recordsBound, cellSize, outputLeast}
 use Rattle.base_lists.specs.Seq.{every}
-use Rattle.table_layout.specs.Table.{headerSize, recordSize, base, count, settingsOf}
-use Rattle.table_ranges.specs.Ranges.{recordsBound, cellSize, outputLeast, allOf}
+use Rattle.table_layout.specs.Table.{count, settingsOf}
+use Rattle.table_ranges.specs.Ranges.{allOf}
 use Rattle.table_header_ok.specs.Header.{HeaderOk, headerOk}
 use Rattle.table_record_ok.specs.OneRecord.{RecordOk, recordOk}
 use Rattle.table_names_ok.specs.Names.{Unique, namesOk}

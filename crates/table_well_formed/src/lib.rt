@@ -2,22 +2,24 @@
 ghost use mathlib.Core.Path.{_≡_};
 ghost use Prim.Native.Nat.{_+_, _*_, _≤_};
 ghost use lib.ListN.{length};
+ghost use Rattle.base_layout.specs.Layout.{headerSize, recordSize};
 ghost use Rattle.base_lists.specs.Seq.{every};
-ghost use Rattle.table_layout.specs.Table.{headerSize, recordSize};
 ghost use Rattle.table_record_ok.specs.OneRecord.{recordOk};
 ghost use Rattle.table_well_formed.specs.WellFormed.{lengthOk, wellFormed, sizesOk, fitting};
+use base_layout::HEADER_SIZE;
+use base_layout::RECORD_SIZE;
 use table_layout::Settings;
 
 pub fn length_ok(n: usize) -> bool
     ensures { λ r. ⌜ r ≡ lengthOk n ⌝ }
 {
-    if n < 784 {
+    if n < base_layout::TABLE_LEAST {
         return false;
     }
-    if n > 8304 {
+    if n > base_layout::TABLE_MOST {
         return false;
     }
-    (n - 624) % 160 == 0
+    (n - HEADER_SIZE) % RECORD_SIZE == 0
 }
 
 fn records_ok(t: &[u8], s: Settings, n: usize) -> bool
@@ -43,7 +45,7 @@ pub fn well_formed(t: &[u8]) -> bool
     if !table_header_ok::header_ok(t) {
         return false;
     }
-    let n = (t.len() - 624) / 160;
+    let n = (t.len() - HEADER_SIZE) / RECORD_SIZE;
     if !records_ok(t, table_layout::settings_of(t), n) {
         return false;
     }
@@ -56,10 +58,10 @@ pub fn sizes_ok(table: usize, store: usize, output: usize) -> bool
     if !length_ok(table) {
         return false;
     }
-    if store != (table - 624) / 160 * 1024 {
+    if store != (table - HEADER_SIZE) / RECORD_SIZE * base_layout::CELL_SIZE {
         return false;
     }
-    output >= 1028
+    output >= base_layout::OUTPUT_LEAST
 }
 
 // Number 1 of 01 is given exactly when this is false.

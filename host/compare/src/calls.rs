@@ -112,11 +112,11 @@ mod tests {
     #[test]
     fn a_call_is_told_with_its_numbers_sizes_octets_and_words() {
         let of = Name { role: 1, peer: 255, tid: 5 };
-        let sizes = Sizes { table: 784, store: 1024, out: 1028, words: 32 };
+        let sizes = Sizes { table: 800, store: 1024, out: 1028, words: 32 };
         let call = Call { kind: Kind::Abort { now: 9, of, reason: 7 }, octets: vec![0x0E, 0], words: vec![3], sizes };
         let told = call.to_string();
         assert!(told.starts_with("abort: now 9, role 1, peer 255, TID 5, reason 7\n"));
-        assert!(told.contains("table 784, store 1024, out 1028 octets"));
+        assert!(told.contains("table 800, store 1024, out 1028 octets"));
         assert!(told.ends_with("octets (2): 0E 00\n  words (1): 3"));
     }
 }

@@ -127,7 +127,7 @@ mod tests {
 
     #[test]
     fn a_difference_in_a_record_is_told_with_its_place_and_octet() {
-        let difference = Difference { place: Place::Table(624 + 160 + 6), library: 17, twin: 3 };
-        assert_eq!(difference.to_string(), "octet 790 of the table (record 1, octet 6): library 17 (hex 11), twin 3 (hex 3)");
+        let difference = Difference { place: Place::Table(624 + 176 + 6), library: 17, twin: 3 };
+        assert_eq!(difference.to_string(), "octet 806 of the table (record 1, octet 6): library 17 (hex 11), twin 3 (hex 3)");
     }
 }

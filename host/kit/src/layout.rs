@@ -2,7 +2,7 @@
 
 pub const CELL: usize = 1024;
 pub const HEADER: usize = 624;
-pub const RECORD: usize = 160;
+pub const RECORD: usize = 176;
 pub const SPARE: usize = 92;
 pub const CACHE: usize = 112;
 pub const LAST_TIME: u64 = 1_000_000_000_000;
@@ -44,7 +44,7 @@ pub const DEADLINE: Field = field(8, 8, 0, LAST_TIME + LONGEST);
 pub const MESSAGE: Field = field(16, 4, 0, 1024);
 /// Spare octets of a record lie from here to its exit information.
 pub const RECORD_SPARE: usize = 20;
-pub const EXIT: usize = 32;
+pub const EXIT: usize = 48;
 
 pub fn table_bytes(records: usize) -> usize {
     HEADER + RECORD * records
@@ -77,9 +77,9 @@ mod tests {
     use super::*;
 
     #[test]
-    fn a_table_for_1_record_has_784_octets_and_one_for_48_has_8304() {
-        assert_eq!(table_bytes(1), 784);
-        assert_eq!(table_bytes(48), 8304);
+    fn a_table_for_1_record_has_800_octets_and_one_for_48_has_9072() {
+        assert_eq!(table_bytes(1), 800);
+        assert_eq!(table_bytes(48), 9072);
     }
 
     #[test]

@@ -145,7 +145,7 @@ fn a_line_that_is_no_command_is_named() {
         ("set 1", "N=V can't be \"1\""),
         ("set 1=1 /", "\"/\" is too much"),
         ("lend 1 2", "OUT is missing"),
-        ("put 0 8464 0", "there is no octet 8464"),
+        ("put 0 9248 0", "there is no octet 9248"),
         ("look 1", "there is no table of 0 records"),
         ("r /18", "OCTETS can't be \"/18\""),
         ("s 00 03", "\"03\" is too much"),

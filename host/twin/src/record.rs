@@ -3,9 +3,9 @@
 use crate::bounds;
 use crate::octets::{array_at, put_at};
 
-pub const OCTETS: usize = 160;
+pub const OCTETS: usize = 176;
 /// Where the exit information starts in a record.
-pub const EXIT: usize = 32;
+pub const EXIT: usize = 48;
 
 #[derive(Clone, Copy, Debug, PartialEq, Eq)]
 pub enum Role {
@@ -183,6 +183,6 @@ impl Record {
             && usize::from(self.exit_length) <= bounds::EXIT
             && self.deadline.unwrap_or(0) <= bounds::DEADLINE
             && self.message_length <= bounds::CELL as u32
-            && octets[20..EXIT] == [0; 12]
+            && octets[20..EXIT] == [0; 28]
     }
 }

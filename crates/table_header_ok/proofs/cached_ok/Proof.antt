@@ -3,11 +3,10 @@ use mathlib.Core.Path.{_≡_, refl}
 use Prim.Native.Nat.{_-_, _≤_}
 use denote.Ref.{now}
 use lib.Dec.{leb, eqb}
+use Rattle.base_layout.specs.Layout.{cachedBound, peers}
 use Rattle.base_lists.specs.Seq.{every}
 use Rattle.base_lists.proofs.Every.{marks-more, marks-done}
 use Rattle.table_layout.specs.Table.{cachedOf}
-use Rattle.table_ranges.specs.Ranges.{peers}
-use Rattle.table_header_ok.specs.Header.{cachedBound}
 use borrow.Author.Needs.{needs}
 use Rattle.table_header_ok.proofs.cached_ok.Statement.{statement}
 use Rattle.table_header_ok.proofs.cached_ok.Tie as tie

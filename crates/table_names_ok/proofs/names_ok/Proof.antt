@@ -5,11 +5,11 @@ use mathlib.Core.List.{List}
 use Prim.Native.Nat.{ℕ, _-_, _≤_, _<_}
 use native.Mathlib.Omega.{arith}
 use denote.Ref.{now}
+use Rattle.base_layout.specs.Layout.{recordsBound}
 use Rattle.base_lists.proofs.Laws.{every-fails, every-more, every-none}
 use Rattle.base_lists.specs.Seq.{every}
 use Rattle.base_lists.proofs.Every.{every-done}
 use Rattle.table_layout.specs.Table.{recordAt}
-use Rattle.table_ranges.specs.Ranges.{recordsBound}
 use Rattle.table_ranges.proofs.InTurn.{held, broke}
 use Rattle.table_names_ok.specs.Names.{Keyed, newName, namesOk}
 use Rattle.table_names_ok.proofs.Keys.{Keys, keys-none, keys-more, key-new}

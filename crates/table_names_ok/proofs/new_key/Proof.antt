@@ -6,9 +6,9 @@ use denote.Ref.{now}
 use lib.ListN.{getD}
 use lib.Dec.{eqb}
 use borrow.Author.Tests.{eq-eqb, ne-eqb}
+use Rattle.base_layout.specs.Layout.{recordsBound}
 use Rattle.base_lists.specs.Seq.{every}
 use Rattle.base_lists.proofs.Every.{marks-more, marks-done}
-use Rattle.table_ranges.specs.Ranges.{recordsBound}
 use Rattle.table_names_ok.specs.Names.{newKey}
 use borrow.Author.Needs.{needs}
 use Rattle.table_names_ok.proofs.new_key.Statement.{statement}

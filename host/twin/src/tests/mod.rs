@@ -137,7 +137,7 @@ impl End {
 
     /// The octets of the record at a place.
     pub fn record(&mut self, place: usize) -> &mut [u8] {
-        &mut self.table[624 + 160 * place..][..160]
+        &mut self.table[624 + 176 * place..][..176]
     }
 }
 

@@ -4,13 +4,13 @@ use super::*;
 use crate::Row;
 
 /// A record in each state octet, TID 5 of peer 9, fired late.
-pub fn live(state: u8) -> [u8; 160] {
-    let mut record = [0; 160];
+pub fn live(state: u8) -> [u8; 176] {
+    let mut record = [0; 176];
     record[..4].copy_from_slice(&[state, 9, 5, 0]);
     record
 }
 
-fn end_with(records: &[[u8; 160]]) -> End {
+fn end_with(records: &[[u8; 176]]) -> End {
     let mut end = End::new(records.len() as u64, 0);
     for (place, record) in records.iter().enumerate() {
         end.record(place).copy_from_slice(record);
@@ -19,8 +19,8 @@ fn end_with(records: &[[u8; 160]]) -> End {
 }
 
 #[test]
-fn a_table_has_784_octets_for_1_record_and_8_304_for_48() {
-    assert_eq!([0, 1, 48, 49, u64::MAX].map(crate::table_bytes), [0, 784, 8304, 0, 0]);
+fn a_table_has_800_octets_for_1_record_and_9_072_for_48() {
+    assert_eq!([0, 1, 48, 49, u64::MAX].map(crate::table_bytes), [0, 800, 9072, 0, 0]);
 }
 
 #[test]
@@ -42,20 +42,20 @@ fn fresh_judges_the_size_first_and_then_every_setting() {
         assert!(number == 0 || table == vec![7; octets]);
         number
     };
-    assert_eq!(fresh(784, &good, 32_767), 0);
-    assert_eq!(fresh(784, &good, 32_768), 10);
-    assert_eq!(fresh(784, &good[..31], 0), 10);
-    assert_eq!(fresh(784, &[good.to_vec(), vec![0]].concat(), 0), 10);
+    assert_eq!(fresh(800, &good, 32_767), 0);
+    assert_eq!(fresh(800, &good, 32_768), 10);
+    assert_eq!(fresh(800, &good[..31], 0), 10);
+    assert_eq!(fresh(800, &[good.to_vec(), vec![0]].concat(), 0), 10);
     for (word, most) in [(0, 8), (1, 8), (2, 86_400_000), (21, 86_400_000), (22, 0), (31, 0)] {
         let with = |value: u64| {
             let mut settings = good;
             settings[word] = value;
-            fresh(784, &settings, 0)
+            fresh(800, &settings, 0)
         };
         assert_eq!((with(most), with(most + 1), with(u64::MAX)), (0, 10, 10), "word {word}");
         assert_eq!(with(0), if (2..22).contains(&word) { 10 } else { 0 }, "word {word}");
     }
-    for octets in [0, 623, 624, 783, 785, 8305, 8464] {
+    for octets in [0, 623, 624, 799, 801, 9073, 9248] {
         assert_eq!(fresh(octets, &[], u64::MAX), 1);
     }
 }
@@ -64,8 +64,8 @@ fn fresh_judges_the_size_first_and_then_every_setting() {
 fn a_wrong_size_is_refused_with_1() {
     let end = End::new(2, 0);
     let damage: [fn(&mut End); 6] = [
-        |end| end.table.truncate(943),
-        |end| end.table.truncate(784),
+        |end| end.table.truncate(975),
+        |end| end.table.truncate(800),
         |end| end.store.truncate(2047),
         |end| end.store.push(0),
         |end| end.out.truncate(1027),
@@ -118,7 +118,7 @@ fn a_record_field_out_of_range_is_refused_with_1() {
         (8, &1_000_086_400_001_u64.to_le_bytes()),
         (16, &1025_u32.to_le_bytes()),
         (20, &[1]),
-        (31, &[1]),
+        (47, &[1]),
     ];
     for (from, octets) in bad {
         let mut end = end_with(&[live(2)]);
@@ -142,7 +142,7 @@ fn the_largest_fields_are_well_formed() {
 
 #[test]
 fn a_free_record_must_be_zero_to_its_last_octet() {
-    for octet in [1, 32, 159] {
+    for octet in [1, 48, 175] {
         let mut end = End::new(1, 0);
         end.record(0)[octet] = 1;
         assert_eq!(end.timer(0).number, 1, "octet {octet}");
@@ -151,8 +151,8 @@ fn a_free_record_must_be_zero_to_its_last_octet() {
 
 #[test]
 fn no_two_live_records_share_a_name() {
-    assert_eq!(end_with(&[live(7), [0; 160], live(10)]).timer(0).number, 1);
-    assert_eq!(end_with(&[live(7), [0; 160], live(2)]).timer(0).number, 0);
+    assert_eq!(end_with(&[live(7), [0; 176], live(10)]).timer(0).number, 1);
+    assert_eq!(end_with(&[live(7), [0; 176], live(2)]).timer(0).number, 0);
     let mut other_peer = live(7);
     other_peer[1] = 8;
     assert_eq!(end_with(&[live(7), other_peer]).timer(0).number, 0);
@@ -161,10 +161,10 @@ fn no_two_live_records_share_a_name() {
 #[test]
 fn octets_past_the_exit_information_are_not_judged_and_stay() {
     let mut end = end_with(&[live(3)]);
-    end.record(0)[32..].fill(0xCC);
+    end.record(0)[48..].fill(0xCC);
     assert_eq!(end.answer(0, [INITIATOR, 9, 5], &[1, 2]).row, Row::IResultRespWaitAnswerExit);
     assert_eq!(end.record(0)[7], 2);
-    assert_eq!(end.record(0)[32..36], [1, 2, 0xCC, 0xCC]);
+    assert_eq!(end.record(0)[48..52], [1, 2, 0xCC, 0xCC]);
 }
 
 #[test]
