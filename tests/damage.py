@@ -9,9 +9,9 @@ import pathlib
 import struct
 import sys
 
-HEADER, RECORD, COUNT = 624, 160, 2
+HEADER, RECORD, COUNT = 624, 176, 2
 # where the fields of docs/TABLE.md start, RCR_MAX with AEC_MAX, A with W, R with R, RCR with AEC and flags with the exit length taken together
-FIELDS = [0, 8, 10, 12, 20, 92, 112] + [HEADER + RECORD * i + at for i in range(COUNT) for at in (0, 1, 2, 4, 6, 8, 16, 20, 32)] + [HEADER + RECORD * COUNT]
+FIELDS = [0, 8, 10, 12, 20, 92, 112] + [HEADER + RECORD * i + at for i in range(COUNT) for at in (0, 1, 2, 4, 6, 8, 16, 20, 48)] + [HEADER + RECORD * COUNT]
 
 
 def number(octets):
@@ -31,7 +31,7 @@ def record_ok(r, rcr_max, aec_max):
     if r[0] == 0:
         return not any(r)
     return (r[0] <= 11 and number(r[2:4]) <= 32767 and r[4] <= rcr_max and r[5] <= aec_max and r[6] <= 15 and r[7] <= 128
-            and number(r[8:16]) <= 10 ** 12 + 86400000 and number(r[16:20]) <= 1024 and not any(r[20:32]))
+            and number(r[8:16]) <= 10 ** 12 + 86400000 and number(r[16:20]) <= 1024 and not any(r[20:48]))
 
 
 def name(r):
