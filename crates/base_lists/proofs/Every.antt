@@ -9,7 +9,7 @@ use lib.Bits.{bitOr, or-comm, or-add-and, and-le-l, and-le-r}
 use lib.Dec.{eqb}
 use borrow.Author.Tests.{eqb-true, eqb-false, eq-eqb, ne-eqb}
 use Rattle.base_lists.specs.Seq.{pick, every}
-use Rattle.base_lists.proofs.Laws.{told, not-so, true-false}
+use Rattle.base_lists.proofs.StoresAndParts.{told, not-so, true-false}
 
 pub every-done : (p : ℕ → Bool) (n i : ℕ) → i ≤ n → n ≤ i → every p i ≡ true → every p n ≡ true
 every-done p n i a b e =

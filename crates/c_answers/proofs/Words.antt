@@ -6,7 +6,7 @@ use native.Mathlib.Omega.{arith}
 use lib.ListN.{length, getD, take, drop, length-append}
 use lib.Seq.{take-append-seam, drop-append-seam}
 use Rattle.base_lists.specs.Seq.{put}
-use Rattle.base_lists.proofs.Laws.{put-append}
+use Rattle.base_lists.proofs.StoresAndParts.{put-append}
 use Rattle.table_record.specs.declared.Role.{Role}
 use Rattle.step_shown.specs.declared.Place.{Place}
 use Rattle.step_shown.specs.declared.Shown.{Shown}

@@ -6,7 +6,7 @@ use mathlib.Core.Path.{_≡_, refl, sym, ap, _∙_}
 use mathlib.Core.List.{List, _++_}
 use mathlib.Core.Bool.{Bool, true, false}
 use Rattle.base_layout.specs.Layout.{timeBound, peers, exitBound, cellSize}
-use Rattle.base_lists.proofs.Laws.{true-false}
+use Rattle.base_lists.proofs.StoresAndParts.{true-false}
 use Rattle.table_layout.specs.Table.{clockOf}
 use Rattle.table_well_formed.specs.WellFormed.{Fitting}
 use Rattle.row_events.specs.declared.Row.the-variants as Row
@@ -26,7 +26,7 @@ use Rattle.call_refusal.proofs.Stages.{next, in-stages}
 use Rattle.call_primitive.specs.Primitives.{Named, ExitRefused, notAllowed, entryTests, foundTests, foundFor, primitiveTests, primitiveStep, primitivePlan}
 use Rattle.call_primitive.specs.declared.Primitive.{Primitive}
 use Rattle.call_primitive.proofs.Named.{found-named, named-live}
-use Rattle.call_primitive.proofs.Meaning.{exit-not-refused, not-too-much, row-allows}
+use Rattle.call_primitive.proofs.PrimitiveTests.{exit-not-refused, not-too-much, row-allows}
 
 -- none of the numbers 1 to 3 is given
 pub record Entered (t : List ℕ) (store output : ℕ) (p : Primitive) : Type 0 where

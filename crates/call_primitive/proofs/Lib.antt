@@ -1,4 +1,4 @@
 pub mod Rows
 pub mod Named
-pub mod Meaning
+pub mod PrimitiveTests
 pub mod Accepted

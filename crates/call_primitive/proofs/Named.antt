@@ -9,7 +9,7 @@ use mathlib.Core.Logic.{_⊎_, inl, inr}
 use lib.Dec.{eqb}
 use Rattle.base_layout.specs.Layout.{tidBound}
 use Rattle.base_lists.specs.Seq.{pick}
-use Rattle.base_lists.proofs.Laws.{told}
+use Rattle.base_lists.proofs.StoresAndParts.{told}
 use Rattle.table_record.specs.Record.{roleOf, roleNumber, stateNumber}
 use Rattle.table_record.specs.declared.Role.{Role}
 use Rattle.table_record.specs.declared.Role.the-variants.{Initiator, Responder}
@@ -20,7 +20,7 @@ use Rattle.table_finding.specs.Finding.{Within, namedOf}
 use Rattle.table_finding.specs.declared.Found.{Found}
 use Rattle.table_finding.specs.declared.Found.the-variants.{At, Nothing}
 use Rattle.table_finding.proofs.Tests.{Called}
-use Rattle.table_finding.proofs.Meaning.{named-found, named-nothing}
+use Rattle.table_finding.proofs.Searches.{named-found, named-nothing}
 use Rattle.law_places.proofs.Places.{live-number, LiveAt, live-range}
 use Rattle.call_refusal.proofs.Fits.{record-there}
 use Rattle.call_primitive.specs.Primitives.{Named, NoneNamed, namedBy, foundFor}

@@ -6,7 +6,7 @@ use mathlib.Core.List.{List, [], _∷_}
 use mathlib.Core.Logic.{_⊎_, inl, inr}
 use types.Run.{OneOf, miss}
 use denote.Enum.Declared.{tagOf, declared}
-use Rattle.base_lists.proofs.Laws.{told}
+use Rattle.base_lists.proofs.StoresAndParts.{told}
 use Rattle.row_events.specs.Events.{sameRow}
 use Rattle.row_events.specs.declared.Row.{Row}
 use Rattle.row_events.specs.declared.Row.the-variants as Row

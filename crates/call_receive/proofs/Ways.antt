@@ -8,7 +8,7 @@ use mathlib.Core.Logic.{_⊎_, inl, inr}
 use lib.Dec.{eqb}
 use Rattle.base_layout.specs.Layout.{tidBound}
 use Rattle.base_lists.specs.Seq.{pick}
-use Rattle.base_lists.proofs.Laws.{true-false}
+use Rattle.base_lists.proofs.StoresAndParts.{true-false}
 use Rattle.codec_pdu.specs.declared.Pdu.{Pdu}
 use Rattle.codec_reading.specs.Read.{pduOf}
 use Rattle.table_record.specs.declared.Role.{Role}
@@ -19,7 +19,7 @@ use Rattle.table_finding.specs.Finding.{isFound, namedOf, freeOf}
 use Rattle.table_finding.specs.declared.Found.{Found}
 use Rattle.table_finding.specs.declared.Found.the-variants as Found
 use Rattle.table_finding.proofs.Tests.{Called}
-use Rattle.table_finding.proofs.Meaning.{NoneOf, named-found, named-nothing}
+use Rattle.table_finding.proofs.Searches.{NoneOf, named-found, named-nothing}
 use Rattle.law_places.proofs.Places.{LiveAt, named-live}
 use Rattle.row_events.specs.declared.Opening.{Opening}
 use Rattle.row_events.specs.declared.Opening.the-variants.{Ignored, UnknownTidve}

@@ -9,10 +9,10 @@ use lib.Dec.{ltb}
 use lib.ListN.{length}
 use Rattle.base_layout.specs.Layout.{headerSize, recordSize, base, timeBound}
 use Rattle.base_lists.specs.Seq.{pick}
-use Rattle.base_lists.proofs.Laws.{true-false}
+use Rattle.base_lists.proofs.StoresAndParts.{true-false}
 use Rattle.table_layout.specs.Table.{count, clockOf}
 use Rattle.table_well_formed.specs.WellFormed.{WellFormed, Fitting, fitting}
-use Rattle.table_well_formed.proofs.Meaning.{to-fitting}
+use Rattle.table_well_formed.proofs.TableTest.{to-fitting}
 use Rattle.call_refusal.specs.Judging.{Test, lowest, lateOf}
 use Rattle.call_refusal.specs.declared.Judged.{Judged}
 use Rattle.call_refusal.specs.declared.Judged.the-variants.{Accept, Refuse}

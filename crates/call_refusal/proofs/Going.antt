@@ -4,7 +4,7 @@ use mathlib.Core.Path.{_≡_, refl, sym, ap}
 use mathlib.Core.List.{List, _∷_}
 use mathlib.Core.Bool.{Bool, true, false}
 use Rattle.base_layout.specs.Layout.{timeBound}
-use Rattle.base_lists.proofs.Laws.{true-false}
+use Rattle.base_lists.proofs.StoresAndParts.{true-false}
 use Rattle.table_layout.specs.Table.{clockOf}
 use Rattle.table_well_formed.specs.WellFormed.{Fitting}
 use Rattle.step_plan.specs.declared.Step.{Step}

@@ -1,4 +1,4 @@
-pub mod Exact
+pub mod LowestExact
 pub mod Fits
 pub mod Going
 pub mod Stages

@@ -8,7 +8,7 @@ use mathlib.Core.Logic.{_⊎_, inl, inr}
 use lib.Dec.{ltb}
 use borrow.Author.Tests.{ltb-false}
 use Rattle.base_layout.specs.Layout.{timeBound, peers, recordsBound, cellSize}
-use Rattle.base_lists.proofs.Laws.{true-false}
+use Rattle.base_lists.proofs.StoresAndParts.{true-false}
 use Rattle.table_record.specs.Record.{roleOf}
 use Rattle.table_record.specs.declared.Role.the-variants.{Initiator}
 use Rattle.table_record.specs.declared.State.the-variants.{Free}
@@ -20,7 +20,7 @@ use Rattle.table_well_formed.specs.WellFormed.{WellFormed}
 use Rattle.table_finding.specs.Finding.{freeOf}
 use Rattle.table_finding.specs.declared.Found.{Found}
 use Rattle.table_finding.specs.declared.Found.the-variants.{At, Nothing}
-use Rattle.table_finding.proofs.Meaning.{free-found}
+use Rattle.table_finding.proofs.Searches.{free-found}
 use Rattle.call_refusal.specs.Judging.{Test, lowest}
 use Rattle.call_refusal.specs.declared.Judged.the-variants.{Accept}
 use Rattle.call_refusal.proofs.Fits.{NoneHolds, accepted}

@@ -6,7 +6,7 @@ use mathlib.Core.List.{List, [], _∷_}
 use mathlib.Core.Bool.{Bool, false}
 use lib.ListN.{length}
 use Rattle.base_lists.specs.Seq.{bit, put}
-use Rattle.base_lists.proofs.Laws.{bit-le}
+use Rattle.base_lists.proofs.StoresAndParts.{bit-le}
 use Rattle.codec_pdu.specs.declared.Kind.{Kind}
 use Rattle.codec_pdu.specs.declared.Kind.the-variants.{Invoke, Result, Ack, Abort, SegInvoke, SegResult, Nack, Wrong, Refused}
 use Rattle.codec_encoding.specs.Write.{typeNumber, flagsOf, extraOf, headerOf, three, FitKind}

@@ -10,7 +10,7 @@ use lib.ListN.{length, take, drop, getD, length-append}
 use lib.Seq.{drop-cons}
 use lib.Dec.{ltb}
 use Rattle.base_lists.specs.Seq.{bit, part}
-use Rattle.base_lists.proofs.Laws.{length-part}
+use Rattle.base_lists.proofs.StoresAndParts.{length-part}
 use Rattle.codec_items.specs.declared.Item.{Item}
 use Rattle.codec_encoding.specs.Write.{itemOctets, itemsOctets, followed, longest, FitItem, FitItems}
 

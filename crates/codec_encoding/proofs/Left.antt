@@ -8,7 +8,7 @@ use mathlib.Core.Bool.{false}
 use lib.ListN.{length, take, getD}
 use lib.Dec.{ltb}
 use Rattle.base_lists.specs.Seq.{put}
-use Rattle.base_lists.proofs.Laws.{put-append, put-nil, length-put}
+use Rattle.base_lists.proofs.StoresAndParts.{put-append, put-nil, length-put}
 use Rattle.codec_items.specs.declared.Item.{Item}
 use Rattle.codec_encoding.specs.Write.{itemOctets, itemsOctets, FitItem, FitItems}
 use Rattle.codec_encoding.proofs.ItemOctets.{itemsFrom, octets-more, length-more, fit-more, octets-none}

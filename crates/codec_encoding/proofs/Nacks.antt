@@ -5,7 +5,7 @@ use mathlib.Core.List.{List}
 use mathlib.Core.Bool.{Bool}
 use lib.ListN.{length, set}
 use Rattle.base_lists.specs.Seq.{part, put}
-use Rattle.base_lists.proofs.Laws.{length-part}
+use Rattle.base_lists.proofs.StoresAndParts.{length-part}
 use Rattle.codec_pdu.specs.declared.Kind.the-variants.{Nack}
 use Rattle.codec_encoding.specs.Write.{extraOf, FitKind}
 

@@ -8,7 +8,7 @@ use mathlib.Core.Bool.{false}
 use lib.ListN.{length, length-append}
 use lib.Dec.{ltb}
 use Rattle.base_lists.specs.Seq.{part, put}
-use Rattle.base_lists.proofs.Laws.{length-part, put-append}
+use Rattle.base_lists.proofs.StoresAndParts.{length-part, put-append}
 use Rattle.codec_pdu.specs.declared.Pdu.{Pdu}
 use Rattle.codec_encoding.specs.Write.{headerOf, itemsOctets, itemsOf, octetsOf, Fit}
 

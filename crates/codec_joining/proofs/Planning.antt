@@ -8,7 +8,7 @@ use mathlib.Core.Bool.{Bool, true, false}
 use lib.ListN.{length, getD, drop-of-length-le}
 use lib.Dec.{ltb, leb, eqb}
 use Rattle.base_lists.specs.Seq.{pick}
-use Rattle.base_lists.proofs.Laws.{true-false, not-so}
+use Rattle.base_lists.proofs.StoresAndParts.{true-false, not-so}
 use Rattle.base_numbers.specs.declared.Refusal.the-variants.{WrongLength}
 use Rattle.codec_joining.specs.declared.Joining.the-variants.{Length, Refused}
 use Rattle.codec_joining.specs.Join.{lengthOctets, eachInRange, sum, joinable, plannedAnswer}

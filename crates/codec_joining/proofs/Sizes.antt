@@ -9,7 +9,7 @@ use lib.ListN.{length, drop, length-append, length-drop}
 use lib.Seq.{length-take-le}
 use lib.Dec.{leb, eqb}
 use Rattle.base_lists.specs.Seq.{pick}
-use Rattle.base_lists.proofs.Laws.{true-false, both-fst, both-snd}
+use Rattle.base_lists.proofs.StoresAndParts.{true-false, both-fst, both-snd}
 use Rattle.codec_joining.specs.Join.{lengthOctets, listed, joinedOctets, eachInRange, sum, joinable}
 
 -- the octets of PDUs of these lengths, each with its length

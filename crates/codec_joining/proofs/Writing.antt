@@ -6,7 +6,7 @@ use mathlib.Core.List.{List, _++_, append-assoc}
 use lib.ListN.{length, getD, drop, drop-of-length-le, length-append}
 use lib.Seq.{drop-drop}
 use Rattle.base_lists.specs.Seq.{part, put}
-use Rattle.base_lists.proofs.Laws.{length-put, length-part, put-append, put-nil}
+use Rattle.base_lists.proofs.StoresAndParts.{length-put, length-part, put-append, put-nil}
 use Rattle.codec_joining.specs.Join.{lengthOctets, listed}
 use Rattle.codec_joining.proofs.Sizes.{Joinable}
 use Rattle.codec_joining.proofs.Remaining.{Left, left-none, left-next, left-more, next-length}

@@ -7,7 +7,7 @@ use mathlib.Core.List.{List}
 use lib.ListN.{length, take, set}
 use lib.Seq.{take-suc-set}
 use Rattle.base_lists.specs.Seq.{tab}
-use Rattle.base_lists.proofs.Laws.{tab-last}
+use Rattle.base_lists.proofs.StoresAndParts.{tab-last}
 use Rattle.codec_items.specs.declared.Item.{Item}
 use Rattle.codec_said.specs.Said.{itemSaid}
 

@@ -8,7 +8,7 @@ use lib.ListN.{length, getD, length-append, List·getD-append}
 use lib.Dec.{eqb}
 use lib.Seq.{getD-append-add, ext-getD}
 use Rattle.base_lists.specs.Seq.{bit, tab}
-use Rattle.base_lists.proofs.Laws.{length-tab, getD-tab}
+use Rattle.base_lists.proofs.StoresAndParts.{length-tab, getD-tab}
 use Rattle.codec_items.specs.Items.{noItem}
 use Rattle.codec_items.specs.declared.Item.{Item}
 use Rattle.codec_pdu.specs.declared.Kind.{Kind}
@@ -16,7 +16,7 @@ use Rattle.codec_pdu.specs.declared.Kind.the-variants.{Invoke, Result, Ack, Abo
 use Rattle.codec_pdu.specs.declared.Pdu.{Pdu}
 use Rattle.codec_words.specs.Words.{frontWords, invokeWords, otherWords, restWords, itemWords, itemsWords, headWords, wordsOf}
 use Rattle.codec_said.specs.Said.{word, set?, kindSaid, itemSaid, itemsSaid, pduSaid, NarrowKind, Narrow}
-use Rattle.codec_words.proofs.Laws.{length-items-words}
+use Rattle.codec_words.proofs.ItemWords.{length-items-words}
 use Rattle.codec_said.proofs.ByType.{said-invoke, said-result, said-ack, said-abort, said-seg-invoke, said-seg-result, said-nack}
 
 bit-said : (b : Bool) → eqb (bit b) 1 ≡ b

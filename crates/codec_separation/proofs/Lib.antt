@@ -3,4 +3,4 @@ pub mod Steps
 pub mod Passed
 pub mod Ways
 pub mod Ordered
-pub mod Exact
+pub mod ElevenExact

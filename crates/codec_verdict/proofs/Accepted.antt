@@ -10,7 +10,7 @@ use lib.Seq.{take-all}
 use lib.Dec.{ltb}
 use borrow.Author.Tests.{leb-true}
 use Rattle.base_lists.specs.Seq.{total}
-use Rattle.base_lists.proofs.Laws.{lt-or-le, every-at, total-same}
+use Rattle.base_lists.proofs.StoresAndParts.{lt-or-le, every-at, total-same}
 use Rattle.codec_items.specs.Items.{noItem}
 use Rattle.codec_items.specs.declared.Item.{Item}
 use Rattle.codec_pdu.specs.Pdu.{soundOf}

@@ -8,7 +8,7 @@ use mathlib.Core.Logic.{_⊎_, inl, inr}
 use lib.ListN.{length, getD, replicate}
 use borrow.Author.Tests.{le-leb}
 use Rattle.base_lists.specs.Seq.{bit}
-use Rattle.base_lists.proofs.Laws.{bit-le, lt-or-le, every-all}
+use Rattle.base_lists.proofs.StoresAndParts.{bit-le, lt-or-le, every-all}
 use Rattle.codec_items.specs.Items.{noItem}
 use Rattle.codec_items.specs.declared.Item.{Item}
 use Rattle.codec_pdu.specs.declared.Pdu.{Pdu}

@@ -6,7 +6,7 @@ use mathlib.Core.List.{List, []}
 use mathlib.Core.Bool.{Bool, true, false}
 use lib.ListN.{getD}
 use borrow.Author.Tests.{leb-true, le-leb, lt-ltb, le-ltb}
-use Rattle.base_lists.proofs.Laws.{both, both-fst, both-snd, every-at, every-all}
+use Rattle.base_lists.proofs.StoresAndParts.{both, both-fst, both-snd, every-at, every-all}
 use Rattle.base_lists.specs.Seq.{pick}
 use Rattle.codec_said.specs.Said.{word}
 use Rattle.codec_verdict.specs.Widths.{widths, widestItem, widest, narrowAt, noneTooWide, inside, fits}

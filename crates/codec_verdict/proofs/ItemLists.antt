@@ -6,7 +6,7 @@ use mathlib.Core.List.{List, [], _∷_}
 use mathlib.Core.Bool.{Bool, true, false}
 use lib.ListN.{length, getD, take, length-append}
 use Rattle.base_lists.specs.Seq.{pick, total}
-use Rattle.base_lists.proofs.Laws.{total-first}
+use Rattle.base_lists.proofs.StoresAndParts.{total-first}
 use Rattle.codec_items.specs.Items.{noItem}
 use Rattle.codec_items.specs.declared.Item.{Item}
 use Rattle.codec_encoding.specs.Write.{itemOctets, itemsOctets, followed, FitItem, FitItems}

@@ -7,7 +7,7 @@ use mathlib.Core.Bool.{Bool, true, false}
 use lib.Dec.{ltb, eqb}
 use borrow.Author.Tests.{ltb-false, eqb-false, le-ltb, ne-eqb}
 use Rattle.base_lists.specs.Seq.{pick}
-use Rattle.base_lists.proofs.Laws.{true-false}
+use Rattle.base_lists.proofs.StoresAndParts.{true-false}
 use Rattle.base_numbers.specs.declared.Malformed.{Malformed}
 use Rattle.base_numbers.specs.declared.Malformed.the-variants.{D1, D2, D3, D4, D7}
 use Rattle.base_numbers.specs.declared.Refusal.the-variants.{WrongLength}

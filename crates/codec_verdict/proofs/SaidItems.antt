@@ -8,7 +8,7 @@ use lib.ListN.{length, getD}
 use lib.Dec.{eqb}
 use borrow.Author.Tests.{lt-ltb}
 use Rattle.base_lists.specs.Seq.{pick}
-use Rattle.base_lists.proofs.Laws.{lt-or-le, length-tab, getD-tab}
+use Rattle.base_lists.proofs.StoresAndParts.{lt-or-le, length-tab, getD-tab}
 use Rattle.codec_items.specs.Items.{noItem}
 use Rattle.codec_said.specs.Said.{word, itemSaid, itemsSaid}
 use Rattle.codec_encoding.specs.Write.{longest, FitItem}

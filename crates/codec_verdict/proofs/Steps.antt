@@ -9,7 +9,7 @@ use lib.ListN.{getD}
 use lib.Dec.{leb, ltb}
 use borrow.Author.Tests.{ltb-true, ltb-false, leb-true, leb-false, lt-ltb, le-ltb, le-leb, lt-leb}
 use Rattle.base_lists.specs.Seq.{total}
-use Rattle.base_lists.proofs.Laws.{told, total-more}
+use Rattle.base_lists.proofs.StoresAndParts.{told, total-more}
 use Rattle.codec_said.specs.Said.{word}
 use Rattle.codec_verdict.specs.Length.{placed, headerSaid, formLength, itemLength, lengthSaid}
 use Rattle.codec_verdict.specs.Widths.{any, longestSaid, widestItem, inside}

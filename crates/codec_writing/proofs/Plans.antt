@@ -7,7 +7,7 @@ use lib.ListN.{length}
 use lib.Dec.{ltb}
 use borrow.Author.Tests.{ltb-false}
 use Rattle.base_lists.specs.Seq.{pick, put}
-use Rattle.base_lists.proofs.Laws.{true-false}
+use Rattle.base_lists.proofs.StoresAndParts.{true-false}
 use Rattle.base_numbers.specs.declared.Refusal.the-variants.{WrongSize}
 use Rattle.codec_pdu.specs.Pdu.{soundOf, blankPdu}
 use Rattle.codec_pdu.specs.declared.Kind.{Kind}

@@ -8,9 +8,9 @@ use mathlib.Core.Logic.{_⊎_, inl, inr}
 use lib.ListN.{replicate}
 use Rattle.base_layout.specs.Layout.{recordSize, cachedAt, base, exitBase}
 use Rattle.base_lists.specs.Seq.{put}
-use Rattle.base_lists.proofs.Laws.{true-false}
+use Rattle.base_lists.proofs.StoresAndParts.{true-false}
 use Rattle.base_octets.specs.Octets.{enc}
-use Rattle.base_octets.proofs.Laws.{length-enc}
+use Rattle.base_octets.proofs.StoredAndRead.{length-enc}
 use Rattle.table_record.specs.Record.{octetsOf}
 use Rattle.codec_reading.specs.Read.{pduOf}
 use Rattle.table_layout.specs.Table.{count, genTidOf, putRecord, clearRecord, putCached, putClock}

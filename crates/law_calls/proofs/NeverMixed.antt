@@ -5,7 +5,7 @@ use mathlib.Core.List.{List}
 use mathlib.Core.Bool.{Bool, true, false, _&&_, _||_}
 use mathlib.Core.Logic.{_⊎_, inl, inr}
 use Rattle.base_lists.specs.Seq.{pick}
-use Rattle.base_lists.proofs.Laws.{true-false}
+use Rattle.base_lists.proofs.StoresAndParts.{true-false}
 use Rattle.table_layout.specs.Table.{count, genTidOf, recordAt}
 use Rattle.table_finding.specs.Finding.{freeOf, dueOf}
 use Rattle.table_finding.specs.declared.Found.{Found}

@@ -9,7 +9,7 @@ use lib.ListN.{length, replicate, length-replicate}
 use Rattle.base_layout.specs.Layout.{recordSize, fieldsSize, cachedAt, exitOffset, base, peers, exitBound}
 use Rattle.base_lists.specs.Seq.{put}
 use Rattle.base_octets.specs.Octets.{enc}
-use Rattle.base_octets.proofs.Laws.{Apart, apart-rows, length-enc}
+use Rattle.base_octets.proofs.StoredAndRead.{Apart, apart-rows, length-enc}
 use Rattle.table_record.specs.Record.{octetsOf}
 use Rattle.table_record.proofs.Back.{length-octets}
 use Rattle.table_layout.specs.Table.{settingsOf, rowsOf, cachedOf, recordAt, putRecord, clearRecord, putGenTid, putCached, putClock}

@@ -6,7 +6,7 @@ use mathlib.Core.List.{List}
 use mathlib.Core.Bool.{Bool, true, false}
 use lib.ListN.{length}
 use Rattle.base_layout.specs.Layout.{recordSize, base, tidBound, cachedBound, peers, exitBound}
-use Rattle.base_lists.proofs.Laws.{true-false}
+use Rattle.base_lists.proofs.StoresAndParts.{true-false}
 use Rattle.table_layout.specs.Table.{count, settingsOf, recordAt, putRecord}
 use Rattle.table_layout.proofs.Put.{record-same}
 use Rattle.table_record_ok.specs.OneRecord.{Live}

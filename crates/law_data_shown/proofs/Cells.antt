@@ -5,9 +5,9 @@ use mathlib.Core.Path.{_≡_, refl, sym, _∙_}
 use mathlib.Core.List.{List}
 use lib.ListN.{length, getD}
 use Rattle.base_lists.specs.Seq.{put, part}
-use Rattle.base_lists.proofs.Laws.{length-put}
+use Rattle.base_lists.proofs.StoresAndParts.{length-put}
 use Rattle.base_octets.specs.Octets.{gets}
-use Rattle.base_octets.proofs.Laws.{gets-part, gets-same}
+use Rattle.base_octets.proofs.StoredAndRead.{gets-part, gets-same}
 
 gets-equal : (n at : ℕ) (s u : List ℕ) → ((k : ℕ) → at ≤ k → k < at + n → getD u k 0 ≡ getD s k 0) → gets n at u ≡ gets n at s
 unfolding gets

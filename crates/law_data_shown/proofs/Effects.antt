@@ -8,8 +8,8 @@ use mathlib.Core.Logic.{_⊎_, inl, inr}
 use lib.ListN.{length}
 use Rattle.base_layout.specs.Layout.{headerSize, recordSize, cellSize}
 use Rattle.base_lists.specs.Seq.{put, part}
-use Rattle.base_lists.proofs.Laws.{length-part}
-use Rattle.base_octets.proofs.Laws.{two-sides}
+use Rattle.base_lists.proofs.StoresAndParts.{length-part}
+use Rattle.base_octets.proofs.StoredAndRead.{two-sides}
 use Rattle.table_record.specs.declared.Record.{Record}
 use Rattle.table_record.specs.declared.State.the-variants.{Free}
 use Rattle.table_layout.specs.Table.{count, recordAt}

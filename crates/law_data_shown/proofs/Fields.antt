@@ -9,7 +9,7 @@ use lib.ListN.{length, getD, replicate, length-replicate}
 use Rattle.base_layout.specs.Layout.{recordSize, cachedAt, base, exitBase, peers}
 use Rattle.base_lists.specs.Seq.{put}
 use Rattle.base_octets.specs.Octets.{gets, enc}
-use Rattle.base_octets.proofs.Laws.{getD-same, length-enc}
+use Rattle.base_octets.proofs.StoredAndRead.{getD-same, length-enc}
 use Rattle.table_record.specs.Record.{stateOf, decoded}
 use Rattle.table_record.specs.declared.Record.{Record}
 use Rattle.table_record.specs.declared.State.the-variants.{Free}

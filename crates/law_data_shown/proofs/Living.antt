@@ -9,7 +9,7 @@ use Rattle.table_finding.specs.Finding.{isFound, namedOf}
 use Rattle.table_finding.specs.declared.Found.{Found}
 use Rattle.table_finding.specs.declared.Found.the-variants as Found
 use Rattle.table_finding.proofs.Tests.{Called}
-use Rattle.table_finding.proofs.Meaning.{NoneOf, named-found, named-nothing}
+use Rattle.table_finding.proofs.Searches.{NoneOf, named-found, named-nothing}
 use Rattle.law_history.specs.Trace.{Entry}
 use Rattle.law_history.specs.Tally.{lives, opens}
 use Rattle.law_history.specs.Demand.{userData, openedData}

@@ -8,7 +8,7 @@ use mathlib.Core.List.{List, _∷_}
 use mathlib.Core.Logic.{_⊎_, inl, inr}
 use lib.Dec.{eqb}
 use Rattle.base_lists.specs.Seq.{pick}
-use Rattle.base_lists.proofs.Laws.{true-false}
+use Rattle.base_lists.proofs.StoresAndParts.{true-false}
 use Rattle.table_record.specs.Record.{stateNumber}
 use Rattle.table_record.specs.declared.Role.the-variants.{Responder}
 use Rattle.table_record.specs.declared.State.{State}
@@ -18,7 +18,7 @@ use Rattle.codec_reading.specs.Read.{pduOf}
 use Rattle.table_layout.specs.Table.{count, recordAt, settingsOf, rowsOf}
 use Rattle.table_finding.specs.Finding.{freeOf}
 use Rattle.table_finding.proofs.Tests.{Called}
-use Rattle.table_finding.proofs.Meaning.{NoneOf}
+use Rattle.table_finding.proofs.Searches.{NoneOf}
 use Rattle.row_events.specs.declared.Opening.{Opening}
 use Rattle.row_events.specs.declared.Opening.the-variants as Opening
 use Rattle.row_choice.specs.Rows.{requestedOf, openingOf, invoke0Of, invoke12Of}

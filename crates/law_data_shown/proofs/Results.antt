@@ -6,7 +6,7 @@ use mathlib.Core.List.{List}
 use mathlib.Core.Logic.{_⊎_, inl, inr}
 use borrow.Author.Tests.{eqb-true}
 use lib.Dec.{eqb}
-use Rattle.base_lists.proofs.Laws.{true-false}
+use Rattle.base_lists.proofs.StoresAndParts.{true-false}
 use Rattle.table_record.specs.Record.{stateNumber, stateOf}
 use Rattle.table_record.specs.declared.State.{State}
 use Rattle.table_record.specs.declared.State.the-variants.{IResultWait2}

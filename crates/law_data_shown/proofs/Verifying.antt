@@ -7,7 +7,7 @@ use mathlib.Core.List.{List}
 use mathlib.Core.Logic.{_⊎_, inl, inr}
 use lib.Dec.{eqb}
 use Rattle.base_lists.specs.Seq.{pick, every}
-use Rattle.base_lists.proofs.Laws.{true-false, both-fst, both-snd}
+use Rattle.base_lists.proofs.StoresAndParts.{true-false, both-fst, both-snd}
 use Rattle.table_record.specs.Record.{stateNumber, stateOf}
 use Rattle.table_record.specs.declared.State.{State}
 use Rattle.table_record.specs.declared.Record.{Record}

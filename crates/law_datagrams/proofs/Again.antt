@@ -6,7 +6,7 @@ use mathlib.Core.List.{List, [], _∷_, map, flatten}
 use mathlib.Core.Bool.{true}
 use lib.ListN.{length, getD, length-append}
 use lib.Seq.{take-append-seam, drop-append-seam}
-use Rattle.base_lists.proofs.Laws.{length-part}
+use Rattle.base_lists.proofs.StoresAndParts.{length-part}
 use Rattle.codec_separation.specs.Separate.{Part}
 use Rattle.codec_separation.specs.Faults.{Announced, seven, fifteen}
 use Rattle.codec_separation.proofs.Ordered.{kinds}

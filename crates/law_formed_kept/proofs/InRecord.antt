@@ -10,15 +10,15 @@ use lib.Dec.{eqb}
 use borrow.Author.Tests.{eqb-true, eqb-false}
 use Rattle.base_layout.specs.Layout.{headerSize, recordSize, fieldsSize, base, spareBase}
 use Rattle.base_lists.specs.Seq.{put}
-use Rattle.base_lists.proofs.Laws.{told, length-put}
-use Rattle.base_octets.proofs.Laws.{Apart, getD-before, getD-after, apart-rows}
+use Rattle.base_lists.proofs.StoresAndParts.{told, length-put}
+use Rattle.base_octets.proofs.StoredAndRead.{Apart, getD-before, getD-after, apart-rows}
 use Rattle.table_layout.specs.Table.{count, settingsOf, recordAt}
 use Rattle.table_layout.proofs.Apart.{clock-apart, gen-tid-apart, settings-apart, rows-apart, cached-apart, record-apart}
 use Rattle.table_header_ok.specs.Header.{HeaderOk}
 use Rattle.table_record_ok.specs.OneRecord.{Live, LiveOk, FreeOk, RecordOk}
-use Rattle.table_record_ok.proofs.Meaning.{free-state}
+use Rattle.table_record_ok.proofs.RecordTest.{free-state}
 use Rattle.table_names_ok.specs.Names.{SameName}
-use Rattle.table_names_ok.proofs.Meaning.{name-turned}
+use Rattle.table_names_ok.proofs.NamesTest.{name-turned}
 use Rattle.table_well_formed.specs.WellFormed.{Sized, WellFormed}
 use Rattle.law_formed_kept.specs.Kept.{Unused}
 

@@ -8,7 +8,7 @@ use lib.ListN.{length, getD, replicate, getD-replicate}
 use Rattle.base_layout.specs.Layout.{recordSize, fieldsSize, spareSize, spareOffset, base, flagsAt, spareBase, exitBase, exitBound}
 use Rattle.base_lists.specs.Seq.{put}
 use Rattle.base_octets.specs.Octets.{enc}
-use Rattle.base_octets.proofs.Laws.{getD-before, getD-after, getD-same}
+use Rattle.base_octets.proofs.StoredAndRead.{getD-before, getD-after, getD-same}
 use Rattle.table_record.specs.Record.{octetsOf, flagsOf}
 use Rattle.table_record.specs.declared.Record.{Record}
 use Rattle.table_record.proofs.Back.{Fits, length-octets, flags-small}
@@ -18,7 +18,7 @@ use Rattle.table_layout.proofs.Apart.{record-apart}
 use Rattle.table_layout.proofs.Put.{record-same}
 use Rattle.table_ranges.specs.Ranges.{Zeros}
 use Rattle.table_record_ok.specs.OneRecord.{Live, InRange, LiveOk, RecordOk}
-use Rattle.table_record_ok.proofs.Meaning.{live-of}
+use Rattle.table_record_ok.proofs.RecordTest.{live-of}
 use Rattle.table_well_formed.specs.WellFormed.{WellFormed}
 use Rattle.table_well_formed.proofs.Lengths.{room}
 use Rattle.table_names_ok.specs.Names.{SameName}

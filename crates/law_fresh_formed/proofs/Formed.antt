@@ -7,7 +7,7 @@ use mathlib.Core.Logic.{inl}
 use lib.ListN.{length}
 use Rattle.base_layout.specs.Layout.{base}
 use Rattle.base_lists.specs.Seq.{tab}
-use Rattle.base_lists.proofs.Laws.{getD-tab}
+use Rattle.base_lists.proofs.StoresAndParts.{getD-tab}
 use Rattle.table_record.specs.Record.{stateNumber}
 use Rattle.table_layout.specs.Table.{count, settingsOf, recordAt}
 use Rattle.table_ranges.specs.Ranges.{Interval}

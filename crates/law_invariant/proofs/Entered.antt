@@ -5,11 +5,11 @@ use mathlib.Core.Bool.{Bool, true, false}
 use mathlib.Core.List.{List, [], _∷_}
 use lib.Dec.{eqb}
 use Rattle.base_lists.specs.Seq.{pick}
-use Rattle.base_lists.proofs.Laws.{true-false}
+use Rattle.base_lists.proofs.StoresAndParts.{true-false}
 use Rattle.base_numbers.specs.Numbers.{numberOf}
 use Rattle.base_numbers.specs.declared.Refusal.the-variants.{WrongSize}
 use Rattle.table_well_formed.specs.WellFormed.{Fitting}
-use Rattle.table_well_formed.proofs.Meaning.{from-fitting}
+use Rattle.table_well_formed.proofs.TableTest.{from-fitting}
 use Rattle.call_refusal.specs.Judging.{Test, lowest, planBy, unfit}
 use Rattle.call_refusal.specs.declared.Judged.{Judged}
 use Rattle.call_refusal.specs.declared.Judged.the-variants as Judged

@@ -5,7 +5,7 @@ use mathlib.Core.Path.{_≡_, refl, ap, _∙_}
 use mathlib.Core.Bool.{Bool, false}
 use mathlib.Core.List.{List}
 use mathlib.Core.Logic.{_⊎_, inl, inr}
-use Rattle.base_lists.proofs.Laws.{lt-or-le}
+use Rattle.base_lists.proofs.StoresAndParts.{lt-or-le}
 use Rattle.table_record.specs.Record.{stateNumber, roleNumber, roleOf}
 use Rattle.table_record.specs.declared.Role.the-variants.{Initiator, Responder}
 use Rattle.table_record.specs.declared.State.{State}
@@ -14,7 +14,7 @@ use Rattle.table_layout.specs.Table.{count, recordAt}
 use Rattle.table_record_ok.specs.OneRecord.{Live}
 use Rattle.table_finding.specs.Finding.{namedOf}
 use Rattle.table_finding.specs.declared.Found.the-variants.{At}
-use Rattle.table_finding.proofs.Meaning.{named-found}
+use Rattle.table_finding.proofs.Searches.{named-found}
 use Rattle.law_places.proofs.Places.{live-number}
 use Rattle.law_counting.specs.Counting.{Counts, countsIn, Fits}
 use Rattle.law_history.specs.Trace.{Entry}

@@ -7,7 +7,7 @@ use mathlib.Core.Bool.{true, false}
 use mathlib.Core.List.{List}
 use mathlib.Core.Logic.{_⊎_, inl, inr}
 use lib.Dec.{eqb}
-use Rattle.base_lists.proofs.Laws.{told, true-false}
+use Rattle.base_lists.proofs.StoresAndParts.{told, true-false}
 use Rattle.table_record.specs.Record.{roleNumber}
 use Rattle.table_record.specs.declared.Role.{Role}
 use Rattle.table_record.specs.declared.Role.the-variants.{Initiator, Responder}
@@ -19,7 +19,7 @@ use Rattle.table_well_formed.specs.WellFormed.{WellFormed}
 use Rattle.table_finding.specs.Finding.{isFound, namedOf}
 use Rattle.table_finding.specs.declared.Found.{Found}
 use Rattle.table_finding.specs.declared.Found.the-variants.{At, Nothing}
-use Rattle.table_finding.proofs.Meaning.{named-nothing}
+use Rattle.table_finding.proofs.Searches.{named-nothing}
 use Rattle.law_plans_sound.proofs.Receives.{not-free}
 use Rattle.law_history.specs.Tally.{Name, lives}
 use Rattle.law_history.specs.Moves.{nameOf}

@@ -8,7 +8,7 @@ use lib.ListN.{length, drop}
 use lib.Seq.{take-append-seam}
 use Rattle.base_layout.specs.Layout.{tidBound, outputLeast}
 use Rattle.base_lists.specs.Seq.{pick, part, put}
-use Rattle.base_lists.proofs.Laws.{put-front}
+use Rattle.base_lists.proofs.StoresAndParts.{put-front}
 use Rattle.row_columns.specs.declared.Send.{Send}
 use Rattle.row_columns.specs.declared.Indication.{Indication}
 use Rattle.law_rows.specs.Shown.{SendProper}

@@ -6,7 +6,7 @@ use mathlib.Core.List.{List}
 use lib.Dec.{eqb}
 use borrow.Author.Tests.{eqb-true, eq-eqb}
 use Rattle.base_lists.specs.Seq.{pick}
-use Rattle.base_lists.proofs.Laws.{true-false, both, both-fst, both-snd, not-so}
+use Rattle.base_lists.proofs.StoresAndParts.{true-false, both, both-fst, both-snd, not-so}
 use Rattle.table_record.specs.Record.{roleNumber}
 use Rattle.table_record.specs.declared.Role.{Role}
 use Rattle.table_record.specs.declared.Role.the-variants.{Initiator, Responder}
@@ -15,7 +15,7 @@ use Rattle.table_finding.specs.Finding.{isFound, namedOf}
 use Rattle.table_finding.specs.declared.Found.{Found}
 use Rattle.table_finding.specs.declared.Found.the-variants.{At, Nothing}
 use Rattle.table_finding.proofs.Tests.{Called}
-use Rattle.table_finding.proofs.Meaning.{NoneOf, named-found, named-nothing}
+use Rattle.table_finding.proofs.Searches.{NoneOf, named-found, named-nothing}
 use Rattle.law_history.specs.Tally.{Name, isNamed, lives}
 
 abbrev pub name : Role → ℕ → ℕ → Name

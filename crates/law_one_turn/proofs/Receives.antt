@@ -11,7 +11,7 @@ use Rattle.table_layout.specs.Table.{count}
 use Rattle.codec_reading.specs.Read.{pduOf}
 use Rattle.codec_pdu.specs.declared.Pdu.{Pdu}
 use Rattle.table_finding.specs.Finding.{freeOf}
-use Rattle.table_finding.proofs.Meaning.{free-found}
+use Rattle.table_finding.proofs.Searches.{free-found}
 use Rattle.law_places.proofs.Places.{free-place}
 use Rattle.row_events.specs.declared.Opening.{Opening}
 use Rattle.row_columns.specs.declared.Next.the-variants.{Ends}

@@ -9,7 +9,7 @@ use lib.ListN.{length, getD, replicate, length-replicate}
 use Rattle.base_layout.specs.Layout.{recordSize, cachedAt, base, exitBase, peers}
 use Rattle.base_lists.specs.Seq.{put}
 use Rattle.base_octets.specs.Octets.{enc}
-use Rattle.base_octets.proofs.Laws.{length-enc, getD-same}
+use Rattle.base_octets.proofs.StoredAndRead.{length-enc, getD-same}
 use Rattle.table_record.specs.Record.{stateOf}
 use Rattle.table_record.specs.declared.State.the-variants.{Free}
 use Rattle.table_record.specs.declared.Record.{Record}

@@ -5,7 +5,7 @@ use mathlib.Core.Path.{_≡_, refl}
 use mathlib.Core.Bool.{Bool, true, false}
 use mathlib.Core.List.{List}
 use Rattle.base_lists.specs.Seq.{pick, every}
-use Rattle.base_lists.proofs.Laws.{both-fst, both-snd}
+use Rattle.base_lists.proofs.StoresAndParts.{both-fst, both-snd}
 use Rattle.table_record.specs.Record.{stateNumber, stateOf, roleOf, classOf}
 use Rattle.table_record.specs.declared.Role.{Role}
 use Rattle.table_record.specs.declared.State.{State}

@@ -11,12 +11,12 @@ use Rattle.table_record.specs.declared.State.{State}
 use Rattle.table_record.specs.declared.State.the-variants as State
 use Rattle.table_layout.specs.Table.{count, settingsOf, recordAt}
 use Rattle.table_record_ok.specs.OneRecord.{Live, InRange, RecordOk}
-use Rattle.table_record_ok.proofs.Meaning.{free-state}
+use Rattle.table_record_ok.proofs.RecordTest.{free-state}
 use Rattle.table_well_formed.specs.WellFormed.{WellFormed}
 use Rattle.table_finding.specs.Finding.{namedOf, freeOf, dueOf}
 use Rattle.table_finding.specs.declared.Found.{Found}
 use Rattle.table_finding.specs.declared.Found.the-variants.{At, Nothing}
-use Rattle.table_finding.proofs.Meaning.{named-found, free-found}
+use Rattle.table_finding.proofs.Searches.{named-found, free-found}
 use Rattle.table_finding.proofs.Earliest.{due-found}
 use Rattle.step_opening.specs.Opens.{placeFor}
 

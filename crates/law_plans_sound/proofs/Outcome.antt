@@ -7,8 +7,8 @@ use mathlib.Core.Logic.{inl, inr}
 use lib.ListN.{length, getD}
 use Rattle.base_layout.specs.Layout.{cellSize}
 use Rattle.base_lists.specs.Seq.{put, part}
-use Rattle.base_lists.proofs.Laws.{length-put, length-part}
-use Rattle.base_octets.proofs.Laws.{getD-before, getD-after}
+use Rattle.base_lists.proofs.StoresAndParts.{length-put, length-part}
+use Rattle.base_octets.proofs.StoredAndRead.{getD-before, getD-after}
 use Rattle.base_numbers.specs.declared.Refusal.{Refusal}
 use Rattle.step_commit.proofs.Length.{length-after}
 use Rattle.law_commit.proofs.Keeps.{commit-keeps}

@@ -6,7 +6,7 @@ use mathlib.Core.Path.{_≡_}
 use mathlib.Core.Bool.{true, false}
 use mathlib.Core.Logic.{_⊎_, inl, inr}
 use lib.Dec.{ltb, eqb}
-use Rattle.base_lists.proofs.Laws.{told}
+use Rattle.base_lists.proofs.StoresAndParts.{told}
 
 -- A holds or does not
 abbrev pub Decided : Type 0 → Type 0

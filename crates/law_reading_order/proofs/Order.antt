@@ -7,7 +7,7 @@ use mathlib.Core.List.{List}
 use mathlib.Core.Bool.{true, false}
 use mathlib.Core.Logic.{inl, inr}
 use lib.ListN.{length}
-use Rattle.base_lists.proofs.Laws.{true-false}
+use Rattle.base_lists.proofs.StoresAndParts.{true-false}
 use Rattle.base_numbers.specs.declared.Malformed.{Malformed}
 use Rattle.base_numbers.specs.declared.Refusal.the-variants.{WrongLength}
 use Rattle.base_numbers.specs.declared.Verdict.{Verdict}

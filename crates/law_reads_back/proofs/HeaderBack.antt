@@ -8,7 +8,7 @@ use mathlib.Core.Bool.{Bool, false}
 use lib.ListN.{length, getD, length-append}
 use lib.Dec.{ltb, eqb}
 use Rattle.base_lists.specs.Seq.{pick, bit, part}
-use Rattle.base_lists.proofs.Laws.{length-part}
+use Rattle.base_lists.proofs.StoresAndParts.{length-part}
 use Rattle.codec_pdu.specs.declared.Kind.{Kind}
 use Rattle.codec_pdu.specs.declared.Kind.the-variants.{Invoke, Result, Ack, Abort, SegInvoke, SegResult, Nack, Wrong, Refused}
 use Rattle.codec_reading.specs.declared.Head.{Head}

@@ -9,7 +9,7 @@ use lib.ListN.{length, getD, length-append}
 use lib.Seq.{getD-append-seam, getD-append-add}
 use lib.Dec.{leb}
 use Rattle.base_lists.specs.Seq.{bit, part}
-use Rattle.base_lists.proofs.Laws.{length-part}
+use Rattle.base_lists.proofs.StoresAndParts.{length-part}
 use Rattle.codec_items.specs.declared.Item.{Item}
 use Rattle.codec_items.specs.declared.Got.the-variants.{One}
 use Rattle.codec_items.specs.Items.{itemAt}

@@ -7,7 +7,7 @@ use mathlib.Core.Bool.{Bool, true, false}
 use lib.ListN.{getD}
 use lib.Dec.{ltb, eqb}
 use Rattle.base_lists.specs.Seq.{pick, bit}
-use Rattle.base_lists.proofs.Laws.{bit-le}
+use Rattle.base_lists.proofs.StoresAndParts.{bit-le}
 use Rattle.base_numbers.specs.declared.Malformed.{Malformed}
 use Rattle.base_numbers.specs.declared.Malformed.the-variants.{D5, D6}
 use Rattle.base_numbers.specs.declared.Verdict.{Verdict}

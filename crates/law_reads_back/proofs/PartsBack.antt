@@ -7,7 +7,7 @@ use mathlib.Core.Bool.{Bool, true, false}
 use lib.ListN.{length, take, length-append}
 use lib.Seq.{take-at, take-all, drop-append-add, drop-append-seam}
 use Rattle.base_lists.specs.Seq.{part}
-use Rattle.base_lists.proofs.Laws.{length-part}
+use Rattle.base_lists.proofs.StoresAndParts.{length-part}
 use Rattle.codec_items.specs.declared.Item.{Item}
 use Rattle.codec_pdu.specs.declared.Kind.{Kind}
 use Rattle.codec_pdu.specs.declared.Kind.the-variants.{Invoke, Result, Ack, Abort, SegInvoke, SegResult, Nack, Wrong, Refused}

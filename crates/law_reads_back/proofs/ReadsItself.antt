@@ -9,7 +9,7 @@ use lib.ListN.{length, take, replicate}
 use lib.Seq.{take-at}
 use lib.Dec.{ltb, eqb}
 use Rattle.base_lists.specs.Seq.{pick, part}
-use Rattle.base_lists.proofs.Laws.{length-part, true-false}
+use Rattle.base_lists.proofs.StoresAndParts.{length-part, true-false}
 use Rattle.base_numbers.specs.declared.Malformed.{Malformed}
 use Rattle.base_numbers.specs.declared.Malformed.the-variants.{D4, D7}
 use Rattle.base_numbers.specs.declared.Verdict.{Verdict}

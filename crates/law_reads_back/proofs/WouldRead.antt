@@ -9,7 +9,7 @@ use lib.ListN.{length, take, replicate, length-append}
 use lib.Seq.{length-take-le, take-all}
 use lib.Dec.{ltb, eqb}
 use Rattle.base_lists.specs.Seq.{pick, part}
-use Rattle.base_lists.proofs.Laws.{length-part}
+use Rattle.base_lists.proofs.StoresAndParts.{length-part}
 use Rattle.base_numbers.specs.declared.Malformed.the-variants.{D4, D7}
 use Rattle.base_numbers.specs.declared.Verdict.{Verdict}
 use Rattle.base_numbers.specs.declared.Verdict.the-variants.{Sound, Bad}

@@ -8,20 +8,20 @@ use mathlib.Core.Bool.{true, false, not}
 use mathlib.Core.Logic.{_⊎_, inl, inr}
 use lib.Dec.{ltb}
 use Rattle.base_layout.specs.Layout.{peers}
-use Rattle.base_lists.proofs.Laws.{true-false, told}
+use Rattle.base_lists.proofs.StoresAndParts.{true-false, told}
 use Rattle.base_numbers.specs.declared.Refusal.the-variants.{PeerTooLarge, TooLong, NoRecord, NotAllowed}
 use Rattle.table_well_formed.specs.WellFormed.{WellFormed, Fitting, fitting}
-use Rattle.table_well_formed.proofs.Meaning.{to-fitting, from-fitting}
+use Rattle.table_well_formed.proofs.TableTest.{to-fitting, from-fitting}
 use Rattle.table_finding.specs.Finding.{isFound}
 use Rattle.table_finding.specs.declared.Found.{Found}
 use Rattle.table_finding.specs.declared.Found.the-variants.{At, Nothing}
 use Rattle.step_live.specs.Turning.{rowAt}
 use Rattle.call_refusal.specs.Judging.{lowest, Lowest, test, condition}
-use Rattle.call_refusal.proofs.Exact.{Tells, lowest-exact, tells-unfit, tells-late}
+use Rattle.call_refusal.proofs.LowestExact.{Tells, lowest-exact, tells-unfit, tells-late}
 use Rattle.call_primitive.specs.Primitives.{ExitRefused, NoneNamed, exitRefused, tooMuch, notAllowed, foundFor, primitiveTests}
 use Rattle.call_primitive.specs.declared.Primitive.{Primitive}
 use Rattle.call_primitive.proofs.Named.{found-named, found-none, one-named}
-use Rattle.call_primitive.proofs.Meaning.{TooMuchBy, NotTooMuch, exit-refused, exit-not-refused, too-much, not-too-much, row-refuses, row-allows}
+use Rattle.call_primitive.proofs.PrimitiveTests.{TooMuchBy, NotTooMuch, exit-refused, exit-not-refused, too-much, not-too-much, row-refuses, row-allows}
 use Rattle.law_refusals.specs.Primitives.{TooMuch, NoRow, primitiveConditions}
 
 tells-peer : (p : Primitive) → Tells (test PeerTooLarge (ltb 255 (p .peer))) (condition PeerTooLarge (peers ≤ p .peer))

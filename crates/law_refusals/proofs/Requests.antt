@@ -7,16 +7,16 @@ use mathlib.Core.Bool.{Bool, true, false, not}
 use lib.Dec.{ltb}
 use borrow.Author.Tests.{ltb-true, ltb-false}
 use Rattle.base_lists.specs.Seq.{pick}
-use Rattle.base_lists.proofs.Laws.{true-false}
+use Rattle.base_lists.proofs.StoresAndParts.{true-false}
 use Rattle.base_numbers.specs.declared.Refusal.{Refusal}
 use Rattle.base_numbers.specs.declared.Refusal.the-variants.{PeerTooLarge, TooLong, WrongClass, TableFull}
 use Rattle.table_layout.specs.Table.{count, recordAt}
 use Rattle.table_finding.specs.Finding.{freeOf, isFound}
 use Rattle.table_finding.specs.declared.Found.{Found}
 use Rattle.table_finding.specs.declared.Found.the-variants.{At, Nothing}
-use Rattle.table_finding.proofs.Meaning.{free-found, free-nothing}
+use Rattle.table_finding.proofs.Searches.{free-found, free-nothing}
 use Rattle.call_refusal.specs.Judging.{test, lowest, condition, Lowest}
-use Rattle.call_refusal.proofs.Exact.{Tells, lowest-exact, tells-unfit, tells-late}
+use Rattle.call_refusal.proofs.LowestExact.{Tells, lowest-exact, tells-unfit, tells-late}
 use Rattle.law_places.proofs.Places.{live-number}
 use Rattle.call_request.specs.Requests.{noneFree, requestTests}
 use Rattle.call_request.specs.declared.Request.{Request}

@@ -2,7 +2,7 @@
 use Prim.Native.Nat.{ℕ}
 use mathlib.Core.List.{List}
 use Rattle.call_refusal.specs.Judging.{lowest, Lowest}
-use Rattle.call_refusal.proofs.Exact.{lowest-exact, tells-unfit, tells-late}
+use Rattle.call_refusal.proofs.LowestExact.{lowest-exact, tells-unfit, tells-late}
 use Rattle.call_timer.specs.Timers.{timerTests}
 use Rattle.law_refusals.specs.Timers.{timerConditions}
 

@@ -8,7 +8,7 @@ use mathlib.Core.Bool.{Bool, true, false}
 use lib.ListN.{length, getD, List·getD-eq-default}
 use lib.Dec.{ltb, eqb}
 use Rattle.base_lists.specs.Seq.{pick}
-use Rattle.base_lists.proofs.Laws.{true-false, lt-or-le}
+use Rattle.base_lists.proofs.StoresAndParts.{true-false, lt-or-le}
 use Rattle.base_numbers.specs.declared.Malformed.{Malformed}
 use Rattle.base_numbers.specs.declared.Malformed.the-variants.{D1, D2, D5, D6, D7}
 use Rattle.base_numbers.specs.declared.Refusal.the-variants.{WrongLength}

@@ -9,7 +9,7 @@ use mathlib.Core.Logic.{_⊎_, inl, inr}
 use lib.ListN.{length, getD, replicate, getD-replicate, length-append}
 use lib.Seq.{getD-append-add, length-take-le}
 use Rattle.base_lists.specs.Seq.{put}
-use Rattle.base_lists.proofs.Laws.{true-false, lt-or-le}
+use Rattle.base_lists.proofs.StoresAndParts.{true-false, lt-or-le}
 use Rattle.codec_items.specs.Items.{noItem}
 use Rattle.codec_items.specs.declared.Item.{Item}
 use Rattle.codec_pdu.specs.Pdu.{soundOf}

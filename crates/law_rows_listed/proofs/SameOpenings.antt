@@ -5,7 +5,7 @@ use mathlib.Core.Bool.{Bool, false}
 use mathlib.Core.List.{List, [], _∷_}
 use lib.ListN.{getD}
 use Rattle.base_lists.specs.Seq.{every}
-use Rattle.base_lists.proofs.Laws.{every-at}
+use Rattle.base_lists.proofs.StoresAndParts.{every-at}
 use Rattle.row_events.specs.Events.{sameOpening}
 use Rattle.row_events.proofs.Finite.{allFlags, at-flags, same-opening}
 use Rattle.row_choice.specs.Rows.{openingOf, invoke0Of, invoke12Of}

@@ -5,7 +5,7 @@ use mathlib.Core.List.{List}
 use mathlib.Core.Bool.{Bool, true, false, not}
 use lib.Dec.{eqb}
 use Rattle.base_lists.specs.Seq.{pick, every}
-use Rattle.base_lists.proofs.Laws.{true-false}
+use Rattle.base_lists.proofs.StoresAndParts.{true-false}
 use Rattle.table_record.specs.Record.{stateNumber}
 use Rattle.table_record.specs.declared.Record.{Record}
 use Rattle.table_layout.specs.declared.Settings.{Settings}

@@ -10,7 +10,7 @@ use lib.ListN.{length, drop, length-drop, drop-of-length-le}
 use lib.Seq.{take-all}
 use lib.Dec.{eqb}
 use Rattle.base_lists.specs.Seq.{part}
-use Rattle.base_lists.proofs.Laws.{true-false}
+use Rattle.base_lists.proofs.StoresAndParts.{true-false}
 use Rattle.base_numbers.specs.declared.Malformed.the-variants.{D7}
 use Rattle.base_numbers.specs.declared.Verdict.the-variants.{Sound}
 use Rattle.codec_pdu.specs.declared.Kind.the-variants.{Wrong}

@@ -8,7 +8,7 @@ use mathlib.Core.Logic.{_⊎_, inl, inr}
 use lib.Dec.{ltb, eqb}
 use borrow.Author.Tests.{ltb-true, ltb-false, leb-true, leb-false, eqb-true, eqb-false}
 use Rattle.base_lists.specs.Seq.{pick}
-use Rattle.base_lists.proofs.Laws.{told, true-false, every-at, some-fails}
+use Rattle.base_lists.proofs.StoresAndParts.{told, true-false, every-at, some-fails}
 use Rattle.base_numbers.specs.declared.Malformed.the-variants.{D1, D2, D3, D4, D5, D6, D7}
 use Rattle.base_numbers.specs.declared.Refusal.the-variants.{WrongLength}
 use Rattle.base_numbers.specs.declared.Verdict.{Verdict}

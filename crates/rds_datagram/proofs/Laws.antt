@@ -9,7 +9,7 @@ use lib.ListN.{length}
 use lib.Dec.{ltb, eqb}
 use native.Mathlib.Nat.{zero-add}
 use Rattle.base_lists.specs.Seq.{pick, put}
-use Rattle.base_lists.proofs.Laws.{put-append}
+use Rattle.base_lists.proofs.StoresAndParts.{put-append}
 use Rattle.base_numbers.specs.declared.Refusal.{Refusal}
 use Rattle.base_numbers.specs.declared.Refusal.the-variants.{WrongSize, WrongSetting, WrongLength}
 use Rattle.rds_datagram.specs.declared.Putting.the-variants.{Length, Refused}

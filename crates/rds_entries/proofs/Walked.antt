@@ -5,7 +5,7 @@ use mathlib.Core.Bool.{Bool, true}
 use Prim.Native.Nat.{ℕ, zero, suc, _+_, _≤_}
 use native.Mathlib.Omega.{arith}
 use lib.ListN.{length, set, drop, length-drop}
-use Rattle.base_lists.proofs.Laws.{true-false}
+use Rattle.base_lists.proofs.StoresAndParts.{true-false}
 use Rattle.rds_entries.specs.declared.Entry.{Entry}
 use Rattle.rds_entries.specs.declared.Entries.{Entries}
 use Rattle.rds_entries.specs.declared.Got.{Got}

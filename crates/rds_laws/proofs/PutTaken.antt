@@ -9,7 +9,7 @@ use lib.Seq.{take-length}
 use lib.Dec.{ltb, leb, eqb}
 use borrow.Author.Tests.{ltb-false, leb-true, eqb-true, lt-leb, le-leb, eq-eqb, ne-eqb}
 use Rattle.base_lists.specs.Seq.{pick}
-use Rattle.base_lists.proofs.Laws.{true-false}
+use Rattle.base_lists.proofs.StoresAndParts.{true-false}
 use Rattle.rds_frame.specs.declared.Kind.the-variants as K
 use Rattle.rds_frame.specs.declared.Head.{Head}
 use Rattle.rds_frame.specs.Frame.{headOf, portsAfter}

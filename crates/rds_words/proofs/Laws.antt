@@ -7,7 +7,7 @@ use mathlib.Core.List.{List, [], _∷_, _++_, append-nil, append-assoc}
 use lib.ListN.{length, getD, take}
 use lib.Seq.{take-suc, length-take-le}
 use Rattle.base_lists.specs.Seq.{put}
-use Rattle.base_lists.proofs.Laws.{put-append}
+use Rattle.base_lists.proofs.StoresAndParts.{put-append}
 use Rattle.rds_entries.specs.declared.Entry.{Entry}
 use Rattle.rds_words.specs.Words.{entryWords, entriesWords, listWords}
 

@@ -8,7 +8,7 @@ use lib.ListN.{length}
 use borrow.Author.Tests.{eqb-true}
 use Rattle.base_layout.specs.Layout.{stateBound}
 use Rattle.base_lists.specs.Seq.{pick, bit, every}
-use Rattle.base_lists.proofs.Laws.{both-fst, both-snd, every-at}
+use Rattle.base_lists.proofs.StoresAndParts.{both-fst, both-snd, every-at}
 use Rattle.table_record.specs.Record.{stateNumber, stateOf}
 use Rattle.table_record.proofs.Back.{state-back}
 use Rattle.table_record.specs.declared.State.{State}

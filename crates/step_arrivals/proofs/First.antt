@@ -8,7 +8,7 @@ use native.Mathlib.Omega.{arith}
 use lib.Dec.{eqb}
 use borrow.Author.Tests.{eqb-true, eqb-false, le-leb}
 use Rattle.base_lists.specs.Seq.{pick}
-use Rattle.base_lists.proofs.Laws.{told, lt-or-le}
+use Rattle.base_lists.proofs.StoresAndParts.{told, lt-or-le}
 use Rattle.codec_items.specs.declared.Item.{Item}
 use Rattle.codec_pdu.specs.declared.Pdu.{Pdu}
 use Rattle.step_arrivals.specs.declared.Info.{Info}

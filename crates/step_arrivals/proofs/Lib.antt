@@ -1,4 +1,4 @@
-pub mod Laws
+pub mod InfoSearch
 pub mod First
 pub mod Names
 pub mod ReadTid

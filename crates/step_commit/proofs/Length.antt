@@ -4,7 +4,7 @@ use mathlib.Core.Path.{_≡_, refl, _∙_}
 use mathlib.Core.List.{List}
 use mathlib.Core.Bool.{Bool, true, false}
 use lib.ListN.{length}
-use Rattle.base_lists.proofs.Laws.{length-put}
+use Rattle.base_lists.proofs.StoresAndParts.{length-put}
 use Rattle.table_layout.specs.Table.{putRecord, clearRecord, putGenTid, putCached, putClock}
 use Rattle.step_commit.specs.declared.Change.{Change}
 use Rattle.step_commit.specs.declared.Change.the-variants.{Nothing, Put, Clear}

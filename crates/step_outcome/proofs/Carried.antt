@@ -4,7 +4,7 @@ use mathlib.Core.Path.{_≡_, refl, ap, _∙_}
 use mathlib.Core.List.{List}
 use mathlib.Core.Bool.{Bool, true, false}
 use lib.ListN.{length}
-use Rattle.base_lists.proofs.Laws.{length-put}
+use Rattle.base_lists.proofs.StoresAndParts.{length-put}
 use Rattle.step_commit.specs.Commit.{tableAfter}
 use Rattle.step_commit.proofs.Length.{length-after}
 use Rattle.step_plan.specs.declared.Part.{Part}

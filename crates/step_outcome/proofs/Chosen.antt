@@ -4,7 +4,7 @@ use mathlib.Core.Path.{_≡_, refl, sym, _∙_}
 use mathlib.Core.List.{List, []}
 use mathlib.Core.Bool.{Bool, true, false}
 use lib.ListN.{length}
-use Rattle.base_lists.proofs.Laws.{true-false, put-nil}
+use Rattle.base_lists.proofs.StoresAndParts.{true-false, put-nil}
 use Rattle.row_columns.specs.declared.Send.{Send}
 use Rattle.row_columns.specs.declared.Send.the-variants.{Nothing, Invoke, Tidok, LastAck, HoldOn, Tidve, Result, Abort}
 use Rattle.step_sending.specs.declared.Sender.{Sender}

@@ -3,7 +3,7 @@ use Prim.Native.Nat.{ℕ, _≤_}
 use native.Mathlib.Omega.{arith}
 use mathlib.Core.Path.{_≡_, refl}
 use lib.ListN.{length, getD}
-use Rattle.base_octets.proofs.Laws.{getD-after}
+use Rattle.base_octets.proofs.StoredAndRead.{getD-after}
 use Rattle.base_numbers.specs.declared.Refusal.{Refusal}
 use Rattle.step_plan.specs.declared.Step.{Step}
 use Rattle.step_plan.specs.declared.Plan.the-variants.{Refuse}

@@ -8,7 +8,7 @@ use lib.ListN.{length}
 use lib.Dec.{ltb, eqb}
 use Rattle.base_layout.specs.Layout.{exitBound, outputLeast}
 use Rattle.base_lists.specs.Seq.{pick, bit}
-use Rattle.base_lists.proofs.Laws.{length-part}
+use Rattle.base_lists.proofs.StoresAndParts.{length-part}
 use Rattle.table_record.specs.Record.{sendTid}
 use Rattle.codec_encoding.specs.Write.{typeNumber, flagsOf, extraOf, headerOf, formOf, itemOctets, itemsOctets, octetsOf}
 use Rattle.row_columns.specs.declared.Send.{Send}

@@ -8,7 +8,7 @@ use borrow.Author.Tests.{le-leb, lt-leb}
 use lib.ListN.{length}
 use lib.Dec.{leb}
 use Rattle.base_lists.specs.Seq.{pick, part}
-use Rattle.base_lists.proofs.Laws.{lt-or-le, length-part}
+use Rattle.base_lists.proofs.StoresAndParts.{lt-or-le, length-part}
 use Rattle.row_columns.specs.declared.Indication.the-variants as Indication
 use Rattle.step_shown.specs.declared.Place.{Place}
 use Rattle.step_shown.specs.declared.Context.{Context}

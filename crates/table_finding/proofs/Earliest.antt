@@ -10,7 +10,7 @@ use lib.Dec.{ltb}
 use borrow.Author.Tests.{lt-ltb, le-ltb}
 use borrow.Author.Count.{below-more}
 use Rattle.base_lists.specs.Seq.{pick}
-use Rattle.base_lists.proofs.Laws.{told, lt-or-le}
+use Rattle.base_lists.proofs.StoresAndParts.{told, lt-or-le}
 use Rattle.table_layout.specs.Table.{recordAt}
 use Rattle.table_finding.specs.Finding.{isDue, earlierOf, betterOf, best, dueOf}
 use Rattle.table_finding.specs.declared.Found.{Found}

@@ -9,9 +9,9 @@ use lib.Dec.{leb, eqb}
 use borrow.Author.Tests.{ne-eqb, eqb-true}
 use Rattle.base_layout.specs.Layout.{fieldsSize, tidOffset, deadlineOffset, base, stateBound}
 use Rattle.base_lists.specs.Seq.{pick, every}
-use Rattle.base_lists.proofs.Laws.{every-at}
+use Rattle.base_lists.proofs.StoresAndParts.{every-at}
 use Rattle.base_octets.specs.Octets.{num, gets}
-use Rattle.base_octets.proofs.Laws.{getD-gets}
+use Rattle.base_octets.proofs.StoredAndRead.{getD-gets}
 use Rattle.table_record.specs.Record.{roleOf, stateNumber, stateOf, roleNumber, decoded}
 use Rattle.table_record.specs.declared.Role.the-variants.{Initiator, Responder}
 use Rattle.table_record.specs.declared.State.{State}

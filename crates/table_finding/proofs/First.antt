@@ -5,7 +5,7 @@ use mathlib.Core.Logic.{_⊎_, inl, inr}
 use Prim.Native.Nat.{ℕ, zero, suc, _+_, _-_, _≤_, _<_}
 use native.Mathlib.Omega.{arith}
 use Rattle.base_lists.specs.Seq.{pick}
-use Rattle.base_lists.proofs.Laws.{told, lt-or-le}
+use Rattle.base_lists.proofs.StoresAndParts.{told, lt-or-le}
 use Rattle.table_finding.specs.Finding.{first}
 use Rattle.table_finding.specs.declared.Found.{Found}
 use Rattle.table_finding.specs.declared.Found.the-variants.{At, Nothing}

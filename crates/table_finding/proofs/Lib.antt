@@ -2,5 +2,5 @@ pub mod Fields
 pub mod First
 pub mod Best
 pub mod Tests
-pub mod Meaning
+pub mod Searches
 pub mod Earliest

@@ -5,7 +5,7 @@ use Prim.Native.Nat.{ℕ, _≤_}
 use lib.Dec.{leb, eqb}
 use borrow.Author.Tests.{eqb-true, eq-eqb, leb-true, le-leb, not-true}
 use Rattle.base_lists.specs.Seq.{pick}
-use Rattle.base_lists.proofs.Laws.{both, both-fst, both-snd, not-so, true-false}
+use Rattle.base_lists.proofs.StoresAndParts.{both, both-fst, both-snd, not-so, true-false}
 use Rattle.table_record.specs.Record.{roleOf, stateNumber, stateOf, roleNumber}
 use Rattle.table_record.specs.declared.Role.{Role}
 use Rattle.table_record.specs.declared.Role.the-variants.{Initiator, Responder}

@@ -7,7 +7,7 @@ use Prim.Native.Nat.{ℕ}
 use native.Mathlib.Omega.{arith}
 use Rattle.base_numbers.specs.declared.Refusal.the-variants.{WrongSize, WrongSetting}
 use Rattle.base_lists.specs.Seq.{pick}
-use Rattle.base_lists.proofs.Laws.{told, not-so, true-false}
+use Rattle.base_lists.proofs.StoresAndParts.{told, not-so, true-false}
 use Rattle.table_fresh.specs.Fresh.{rightSize, inRange, freshAnswer, freshNumber}
 use Rattle.table_fresh.specs.declared.Fresh.{Fresh}
 use Rattle.table_fresh.specs.declared.Fresh.the-variants.{Made, Refused}

@@ -8,7 +8,7 @@ use lib.Seq.{take-at, drop-at, getD-append-add}
 use Rattle.base_layout.specs.Layout.{recordSize, cachedAt, headerSpareAt, base}
 use Rattle.base_lists.specs.Seq.{tab}
 use Rattle.base_octets.specs.Octets.{num, enc, gets}
-use Rattle.base_octets.proofs.Laws.{gets-part, num-enc, length-enc}
+use Rattle.base_octets.proofs.StoredAndRead.{gets-part, num-enc, length-enc}
 use Rattle.table_record.specs.Record.{stateOf, decoded}
 use Rattle.table_record.specs.declared.State.the-variants.{Free}
 use Rattle.table_layout.specs.Table.{clockOf, genTidOf, settingsOf, fours, rowsOf, cachedOf, recordAt}

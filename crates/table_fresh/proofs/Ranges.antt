@@ -9,7 +9,7 @@ use lib.ListN.{length, getD}
 use lib.Dec.{leb, eqb}
 use borrow.Author.Tests.{lt-ltb, le-ltb, le-leb, leb-true, leb-false, eqb-true, eqb-false}
 use Rattle.base_lists.specs.Seq.{pick}
-use Rattle.base_lists.proofs.Laws.{told, lt-or-le, both, both-fst, both-snd, not-so, true-false, every-at, some-fails}
+use Rattle.base_lists.proofs.StoresAndParts.{told, lt-or-le, both, both-fst, both-snd, not-so, true-false, every-at, some-fails}
 use Rattle.table_fresh.specs.Fresh.{wordOk, wordsOk, inRange}
 
 abbrev pub word : List ℕ → ℕ → ℕ

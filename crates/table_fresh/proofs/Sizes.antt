@@ -7,7 +7,7 @@ use native.Mathlib.Omega.{arith}
 use lib.Dec.{leb}
 use borrow.Author.Tests.{leb-true, le-leb, lt-leb, eqb-true, eq-eqb}
 use Rattle.base_layout.specs.Layout.{headerSize, recordSize, base, recordsBound}
-use Rattle.base_lists.proofs.Laws.{both, both-fst, both-snd}
+use Rattle.base_lists.proofs.StoresAndParts.{both, both-fst, both-snd}
 use Rattle.table_fresh.specs.Fresh.{tableBytes, rightSize}
 
 -- how many records there are, where the size is right

@@ -7,9 +7,9 @@ use lib.ListN.{length, getD, take, replicate, length-append, replicate-append-re
 use lib.Seq.{sets-eq, take-append-seam, drop-append-add, drop-append-seam}
 use Rattle.base_layout.specs.Layout.{recordSize, base}
 use Rattle.base_lists.specs.Seq.{put}
-use Rattle.base_lists.proofs.Laws.{put-append, put-nil}
+use Rattle.base_lists.proofs.StoresAndParts.{put-append, put-nil}
 use Rattle.base_octets.specs.Octets.{enc}
-use Rattle.base_octets.proofs.Laws.{length-enc}
+use Rattle.base_octets.proofs.StoredAndRead.{length-enc}
 use Rattle.table_fresh.specs.Fresh.{zeros, fourEach, fieldsOf, freshTable}
 use Rattle.table_fresh.proofs.Zeros.{length-zeros}
 

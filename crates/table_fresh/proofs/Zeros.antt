@@ -5,7 +5,7 @@ use Prim.Native.Nat.{ℕ, zero, suc, _+_, _≤_, _<_}
 use native.Mathlib.Omega.{arith}
 use lib.ListN.{length, getD, set, length-replicate}
 use lib.Seq.{drop-length}
-use Rattle.base_lists.proofs.Laws.{put-front}
+use Rattle.base_lists.proofs.StoresAndParts.{put-front}
 use Rattle.base_lists.proofs.Stores.{Stored, stored-more, stored-all}
 use Rattle.table_fresh.specs.Fresh.{zeros}
 

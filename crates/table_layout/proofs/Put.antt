@@ -8,7 +8,7 @@ use lib.ListN.{length, replicate}
 use Rattle.base_layout.specs.Layout.{headerSize, recordSize, fieldsSize, cachedAt, base}
 use Rattle.base_lists.specs.Seq.{put}
 use Rattle.base_octets.specs.Octets.{gets}
-use Rattle.base_octets.proofs.Laws.{Apart, gets-same, apart-rows, number-same}
+use Rattle.base_octets.proofs.StoredAndRead.{Apart, gets-same, apart-rows, number-same}
 use Rattle.table_record.specs.Record.{decoded, octetsOf}
 use Rattle.table_record.specs.declared.Record.{Record}
 use Rattle.table_record.proofs.Back.{Fits, length-octets, decoded-back}

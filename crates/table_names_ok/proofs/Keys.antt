@@ -11,7 +11,7 @@ use lib.Dec.{eqb}
 use borrow.Author.Tests.{eqb-true, eqb-false, eq-eqb, ne-eqb, not-true}
 use Rattle.base_layout.specs.Layout.{recordsBound}
 use Rattle.base_lists.specs.Seq.{pick, every}
-use Rattle.base_lists.proofs.Laws.{told, not-so, true-false, below-or-last, every-all, every-at, lt-or-le}
+use Rattle.base_lists.proofs.StoresAndParts.{told, not-so, true-false, below-or-last, every-all, every-at, lt-or-le}
 use Rattle.base_lists.proofs.Every.{same-test}
 use Rattle.table_record.specs.Record.{roleOf, roleNumber, stateNumber}
 use Rattle.table_record.specs.declared.Record.{Record}
@@ -20,7 +20,7 @@ use Rattle.table_record.specs.declared.Role.the-variants.{Initiator, Responder}
 use Rattle.table_layout.specs.Table.{recordAt}
 use Rattle.table_record_ok.specs.OneRecord.{Live}
 use Rattle.table_names_ok.specs.Names.{clash, newName, keyOf, Keyed, newKey}
-use Rattle.table_names_ok.proofs.Meaning.{role-back, clash-to, clash-from}
+use Rattle.table_names_ok.proofs.NamesTest.{role-back, clash-to, clash-from}
 
 pub key-free : (r : Record) → stateNumber (r .state) ≡ 0 → keyOf r ≡ 0
 unfolding keyOf

@@ -1,2 +1,2 @@
-pub mod Meaning
+pub mod NamesTest
 pub mod Keys

@@ -8,7 +8,7 @@ use native.Mathlib.Omega.{arith}
 use lib.ListN.{length, getD}
 use lib.Dec.{eqb}
 use borrow.Author.Tests.{eqb-true, eqb-false, not-true, not-false}
-use Rattle.base_lists.proofs.Laws.{told, true-false}
+use Rattle.base_lists.proofs.StoresAndParts.{told, true-false}
 use Rattle.table_ranges.specs.Ranges.{allOf}
 
 -- the first k tests of a list hold

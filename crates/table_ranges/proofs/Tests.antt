@@ -5,7 +5,7 @@ use mathlib.Core.Bool.{Bool, true}
 use Prim.Native.Nat.{ℕ}
 use native.Mathlib.Omega.{arith}
 use borrow.Author.Tests.{leb-true, le-leb}
-use Rattle.base_lists.proofs.Laws.{both, both-fst, both-snd}
+use Rattle.base_lists.proofs.StoresAndParts.{both, both-fst, both-snd}
 use Rattle.table_ranges.specs.Ranges.{allOf, Interval, interval, intervalTests}
 
 -- each of them holds

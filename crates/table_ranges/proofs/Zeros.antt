@@ -11,7 +11,7 @@ use lib.Bits.{bitOr}
 use lib.Dec.{eqb}
 use borrow.Author.Tests.{eqb-true, eq-eqb}
 use Rattle.base_lists.specs.Seq.{pick}
-use Rattle.base_lists.proofs.Laws.{both, both-fst, both-snd, every-all, every-at, lt-or-le}
+use Rattle.base_lists.proofs.StoresAndParts.{both, both-fst, both-snd, every-all, every-at, lt-or-le}
 use Rattle.base_lists.proofs.Every.{same-test, or-none}
 use Rattle.base_octets.specs.Octets.{num, gets}
 use Rattle.table_ranges.specs.Ranges.{Zeros, zeros}

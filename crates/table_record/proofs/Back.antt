@@ -7,9 +7,9 @@ use lib.ListN.{length}
 use lib.Dec.{eqb}
 use Rattle.base_layout.specs.Layout.{fieldsSize}
 use Rattle.base_lists.specs.Seq.{bit}
-use Rattle.base_lists.proofs.Laws.{bit-le}
+use Rattle.base_lists.proofs.StoresAndParts.{bit-le}
 use Rattle.base_octets.specs.Octets.{enc, gets}
-use Rattle.base_octets.proofs.Laws.{num-enc}
+use Rattle.base_octets.proofs.StoredAndRead.{num-enc}
 use Rattle.table_record.specs.Record.{stateNumber, stateOf, flagsOf, decoded, octetsOf}
 use Rattle.table_record.specs.declared.State.{State}
 use Rattle.table_record.specs.declared.State.the-variants.{Free, IResultWait1, IResultWait2, IResultRespWait, IWaitTimeout, RTidokWait1, RTidokWait2, RInvokeRespWait1, RInvokeRespWait2, RResultWait, RResultRespWait, RWaitTimeout}

@@ -9,7 +9,7 @@ use lib.ListN.{getD}
 use lib.Dec.{eqb}
 use borrow.Author.Tests.{eqb-true, ne-eqb}
 use Rattle.base_layout.specs.Layout.{base, stateBound}
-use Rattle.base_lists.proofs.Laws.{every-at, lt-or-le}
+use Rattle.base_lists.proofs.StoresAndParts.{every-at, lt-or-le}
 use Rattle.base_lists.specs.Seq.{every}
 use Rattle.base_octets.specs.Octets.{gets}
 use Rattle.table_record.specs.Record.{stateNumber, stateOf, decoded}

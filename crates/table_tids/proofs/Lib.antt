@@ -1,2 +1,2 @@
 pub mod Distance
-pub mod Meaning
+pub mod Ahead

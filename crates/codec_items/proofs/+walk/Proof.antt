@@ -3,7 +3,7 @@
 use borrow.Author.Needs.{needs}
 use mathlib.Core.Path.{_∙_, sym}
 use Prim.Native.Nat.{ℕ, _<_}
-use Rattle.codec_items.proofs.Laws.{walk-none, walk-more}
+use Rattle.codec_items.proofs.WalkSteps.{walk-none, walk-more}
 use borrow.Fn.Kinds.{In}
 use borrow.Fn.PlainCycle.{Measures, is, falls, and}
 use Rattle.codec_items.proofs.walk.Reads as walk

@@ -1,7 +1,7 @@
 -- `codec_joining::put_part` meets its contract: the length and then the PDU are stored one after the other. Assumes nothing.
 use native.Mathlib.Omega.{arith}
 use mathlib.Core.Path.{sym}
-use Rattle.base_lists.proofs.Laws.{put-append}
+use Rattle.base_lists.proofs.StoresAndParts.{put-append}
 use borrow.Author.Needs.{needs}
 use Rattle.codec_joining.proofs.put_part.Statement.{statement}
 use Rattle.codec_joining.proofs.put_part.Tie as tie

@@ -4,7 +4,7 @@ use native.Mathlib.Omega.{arith}
 use mathlib.Core.Path.{_≡_, sym, ap, _∙_}
 use mathlib.Core.Bool.{true}
 use Rattle.base_lists.specs.Seq.{every}
-use Rattle.base_lists.proofs.Laws.{every-none, every-more, every-fails}
+use Rattle.base_lists.proofs.StoresAndParts.{every-none, every-more, every-fails}
 use Rattle.codec_verdict.specs.Length.{placed}
 use Rattle.codec_verdict.specs.Judge.{itemInside, itemsInside}
 use borrow.Author.Needs.{needs}

@@ -7,7 +7,7 @@ use mathlib.Core.Logic.{⊎-elim}
 use borrow.Author.Tests.{le-leb, lt-leb, lt-ltb, le-ltb}
 use denote.Ref.{now}
 use Rattle.base_lists.specs.Seq.{every}
-use Rattle.base_lists.proofs.Laws.{every-none, every-more, every-fails}
+use Rattle.base_lists.proofs.StoresAndParts.{every-none, every-more, every-fails}
 use Rattle.codec_said.specs.Said.{word}
 use Rattle.codec_verdict.specs.Widths.{widest, widths, narrowAt, noneTooWide}
 use borrow.Author.Needs.{needs}

@@ -4,7 +4,7 @@ use mathlib.Core.Path.{_≡_, refl, _∙_}
 use lib.ListN.{length}
 use denote.Ref.{now}
 use Rattle.codec_words.specs.Words.{wordsOf, headWords, restWords}
-use Rattle.codec_words.proofs.Laws.{five-stores}
+use Rattle.codec_words.proofs.ItemWords.{five-stores}
 use borrow.Author.Needs.{needs}
 use Rattle.codec_words.proofs.store_fields.Statement.{statement}
 use Rattle.codec_words.proofs.store_fields.Tie as tie

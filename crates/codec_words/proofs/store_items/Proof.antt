@@ -8,10 +8,10 @@ use lib.Seq.{take-all}
 use denote.Ref.{now}
 use Rattle.codec_items.specs.declared.Item.{Item}
 use Rattle.codec_items.specs.Items.{noItem}
-use Rattle.base_lists.proofs.Laws.{put-nil, length-put}
+use Rattle.base_lists.proofs.StoresAndParts.{put-nil, length-put}
 use Rattle.base_lists.specs.Seq.{put}
 use Rattle.codec_words.specs.Words.{itemWords, itemsWords}
-use Rattle.codec_words.proofs.Laws.{one-more}
+use Rattle.codec_words.proofs.ItemWords.{one-more}
 use borrow.Author.Needs.{needs}
 use Rattle.codec_words.proofs.store_items.Statement.{statement}
 use Rattle.codec_words.proofs.store_items.Tie as tie

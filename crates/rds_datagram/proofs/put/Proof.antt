@@ -4,7 +4,7 @@ use native.Mathlib.Omega.{arith}
 use lib.ListN.{length}
 use denote.Ref.{now}
 use borrow.Author.Needs.{needs}
-use Rattle.base_lists.proofs.Laws.{length-put}
+use Rattle.base_lists.proofs.StoresAndParts.{length-put}
 use Rattle.rds_datagram.specs.Put.{putOf, putBy, headOctets, done}
 use Rattle.rds_datagram.proofs.Laws.{roomy, head-length, two-stores}
 use Rattle.rds_datagram.proofs.put.Statement.{statement}

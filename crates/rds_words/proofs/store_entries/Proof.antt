@@ -9,7 +9,7 @@ use lib.Seq.{take-all}
 use denote.Ref.{now}
 use borrow.Author.Needs.{needs}
 use Rattle.base_lists.specs.Seq.{put}
-use Rattle.base_lists.proofs.Laws.{put-nil, length-put}
+use Rattle.base_lists.proofs.StoresAndParts.{put-nil, length-put}
 use Rattle.rds_entries.specs.Entries.{noEntry}
 use Rattle.rds_words.specs.Words.{entryWords, entriesWords}
 use Rattle.rds_words.proofs.Laws.{one-more}

@@ -2,7 +2,7 @@
 -- Assumes nothing.
 use borrow.Author.Needs.{needs}
 use mathlib.Core.Path.{_∙_, sym}
-use Rattle.step_arrivals.proofs.Laws.{info-none, info-here, info-later}
+use Rattle.step_arrivals.proofs.InfoSearch.{info-none, info-here, info-later}
 use Prim.Native.Nat.{ℕ, _<_}
 use borrow.Fn.Kinds.{In}
 use borrow.Fn.PlainCycle.{Measures, is, falls, and}

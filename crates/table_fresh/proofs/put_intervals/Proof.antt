@@ -5,7 +5,7 @@ use native.Mathlib.Omega.{arith}
 use lib.ListN.{length, getD}
 use denote.Ref.{now}
 use Rattle.base_lists.specs.Seq.{put}
-use Rattle.base_lists.proofs.Laws.{length-put}
+use Rattle.base_lists.proofs.StoresAndParts.{length-put}
 use Rattle.base_octets.specs.Octets.{enc}
 use Rattle.table_fresh.specs.Fresh.{fourEach}
 use Rattle.table_fresh.proofs.Written.{four-turn, four-over}

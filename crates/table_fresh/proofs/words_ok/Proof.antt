@@ -7,7 +7,7 @@ use native.Mathlib.Omega.{arith}
 use lib.ListN.{getD}
 use denote.Ref.{now}
 use Rattle.base_lists.specs.Seq.{every}
-use Rattle.base_lists.proofs.Laws.{every-none, every-more, every-fails}
+use Rattle.base_lists.proofs.StoresAndParts.{every-none, every-more, every-fails}
 use Rattle.table_fresh.specs.Fresh.{wordOk, wordsOk}
 use borrow.Author.Needs.{needs}
 use Rattle.table_fresh.proofs.words_ok.Statement.{statement}

@@ -4,7 +4,7 @@ use native.Mathlib.Omega.{arith}
 use mathlib.Core.Path.{ap, _∙_}
 use denote.Ref.{now}
 use Rattle.base_layout.specs.Layout.{fieldsSize, base}
-use Rattle.base_octets.proofs.Laws.{gets-part}
+use Rattle.base_octets.proofs.StoredAndRead.{gets-part}
 use Rattle.table_record.specs.Record.{decoded}
 use Rattle.table_layout.specs.Table.{recordAt}
 use borrow.Author.Needs.{needs}

@@ -6,7 +6,7 @@ use Prim.Native.Nat.{ℕ, _-_, _≤_, _<_}
 use native.Mathlib.Omega.{arith}
 use denote.Ref.{now}
 use Rattle.base_layout.specs.Layout.{recordsBound}
-use Rattle.base_lists.proofs.Laws.{every-fails, every-more, every-none}
+use Rattle.base_lists.proofs.StoresAndParts.{every-fails, every-more, every-none}
 use Rattle.base_lists.specs.Seq.{every}
 use Rattle.base_lists.proofs.Every.{every-done}
 use Rattle.table_layout.specs.Table.{recordAt}

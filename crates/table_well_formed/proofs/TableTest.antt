@@ -5,13 +5,13 @@ use mathlib.Core.Bool.{true}
 use Prim.Native.Nat.{ℕ}
 use lib.ListN.{length}
 use borrow.Author.Tests.{leb-true, eqb-true, le-leb, eq-eqb}
-use Rattle.base_lists.proofs.Laws.{every-all, every-at}
+use Rattle.base_lists.proofs.StoresAndParts.{every-all, every-at}
 use Rattle.table_layout.specs.Table.{count, settingsOf}
 use Rattle.table_ranges.proofs.Tests.{Each, each, all}
-use Rattle.table_header_ok.proofs.Meaning.{header-to, header-from}
+use Rattle.table_header_ok.proofs.HeaderTest.{header-to, header-from}
 use Rattle.table_record_ok.specs.OneRecord.{recordOk}
-use Rattle.table_record_ok.proofs.Meaning.{record-to, record-from}
-use Rattle.table_names_ok.proofs.Meaning.{names-to, names-from}
+use Rattle.table_record_ok.proofs.RecordTest.{record-to, record-from}
+use Rattle.table_names_ok.proofs.NamesTest.{names-to, names-from}
 use Rattle.table_well_formed.specs.WellFormed.{WellFormed, Fitting, tableTests, wellFormed, sizeTests, sizesOk, fittingTests, fitting}
 use Rattle.table_well_formed.proofs.Lengths.{sized-to, sized-from}
 

@@ -7,7 +7,7 @@ use mathlib.Core.List.{List, [], _∷_, _++_, append-nil, append-assoc}
 use lib.ListN.{length, getD, take, length-append}
 use lib.Seq.{take-suc, length-take-le}
 use Rattle.base_lists.specs.Seq.{put}
-use Rattle.base_lists.proofs.Laws.{put-append}
+use Rattle.base_lists.proofs.StoresAndParts.{put-append}
 use Rattle.codec_items.specs.declared.Item.{Item}
 use Rattle.codec_words.specs.Words.{itemWords, itemsWords}
 

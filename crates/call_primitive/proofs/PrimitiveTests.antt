@@ -9,7 +9,7 @@ use mathlib.Core.Logic.{_⊎_, inl, inr}
 use lib.Dec.{ltb, eqb}
 use Rattle.base_layout.specs.Layout.{exitBound, cellSize}
 use Rattle.base_lists.specs.Seq.{pick}
-use Rattle.base_lists.proofs.Laws.{true-false, both, both-fst, both-snd}
+use Rattle.base_lists.proofs.StoresAndParts.{true-false, both, both-fst, both-snd}
 use Rattle.table_record.specs.Record.{roleOf, classOf}
 use Rattle.table_record.specs.declared.Role.{Role}
 use Rattle.table_record.specs.declared.Role.the-variants.{Initiator, Responder}

@@ -10,7 +10,7 @@ use lib.ListN.{getD}
 use lib.Dec.{eqb}
 use borrow.Author.Tests.{leb-true, le-leb, eqb-false, eq-eqb, ne-eqb}
 use Rattle.base_layout.specs.Layout.{recordSize, spareSize, base, spareBase}
-use Rattle.base_lists.proofs.Laws.{told}
+use Rattle.base_lists.proofs.StoresAndParts.{told}
 use Rattle.table_record.specs.Record.{stateNumber}
 use Rattle.table_record.specs.declared.Record.{Record}
 use Rattle.table_layout.specs.Table.{recordAt}

@@ -8,7 +8,7 @@ use native.Mathlib.Nat.{div-lt-iff-lt-mul, pow-suc, add-zero, zero-add, mul-le-m
 use lib.ListN.{length, getD, take, drop, set, length-set, length-drop}
 use lib.Seq.{getD-take, getD-drop, length-take-le, getD-set-same, getD-set-other, ext-getD}
 use Rattle.base_lists.specs.Seq.{put}
-use Rattle.base_lists.proofs.Laws.{lt-or-le}
+use Rattle.base_lists.proofs.StoresAndParts.{lt-or-le}
 use Rattle.base_octets.specs.Octets.{num, enc, gets}
 
 pub getD-before : (w t : List ℕ) (at k : ℕ) → k < at → getD (put t at w) k 0 ≡ getD t k 0

@@ -9,10 +9,10 @@ use mathlib.Core.Logic.{_⊎_, inl, inr}
 use lib.Dec.{ltb}
 use Rattle.base_layout.specs.Layout.{timeBound}
 use Rattle.base_lists.specs.Seq.{pick}
-use Rattle.base_lists.proofs.Laws.{true-false}
+use Rattle.base_lists.proofs.StoresAndParts.{true-false}
 use Rattle.table_layout.specs.Table.{clockOf}
 use Rattle.table_well_formed.specs.WellFormed.{fitting}
-use Rattle.table_well_formed.proofs.Meaning.{to-fitting, from-fitting}
+use Rattle.table_well_formed.proofs.TableTest.{to-fitting, from-fitting}
 use Rattle.call_refusal.specs.Judging.{Test, lowest, Condition, Lowest, lateOf, unfit, Unfit, tooLate, Late}
 
 -- a test tells its condition, both ways, and both have one number

@@ -6,8 +6,8 @@ use mathlib.Core.Logic.{_⊎_, inl, inr}
 use Prim.Native.Nat.{ℕ, _<_}
 use native.Mathlib.Omega.{arith}
 use borrow.Author.Tests.{leb-true, le-leb, eqb-true, eq-eqb, not-true}
-use Rattle.base_lists.proofs.Laws.{not-so, true-false, every-all, every-at}
-use Rattle.base_octets.proofs.Laws.{two-sides}
+use Rattle.base_lists.proofs.StoresAndParts.{not-so, true-false, every-all, every-at}
+use Rattle.base_octets.proofs.StoredAndRead.{two-sides}
 use Rattle.table_record.specs.Record.{roleNumber}
 use Rattle.table_record.specs.declared.Record.{Record}
 use Rattle.table_record.specs.declared.Role.{Role}

@@ -9,7 +9,7 @@ use lib.ListN.{getD}
 use lib.Dec.{leb}
 use borrow.Author.Tests.{leb-true, le-leb}
 use Rattle.base_layout.specs.Layout.{headerSpareAt, headerSpareSize, cachedBound, peers}
-use Rattle.base_lists.proofs.Laws.{every-all, every-at}
+use Rattle.base_lists.proofs.StoresAndParts.{every-all, every-at}
 use Rattle.base_lists.specs.Seq.{every}
 use Rattle.base_octets.specs.Octets.{num, gets}
 use Rattle.table_layout.specs.Table.{fours, rowsOf, settingsOf, cachedOf}
