@@ -53,7 +53,7 @@ pub struct Managed {
 }
 
 // How the body of an Action is laid out.
-enum Form {
+pub enum Form {
     Asking,
     Answer,
     Query,
@@ -62,7 +62,7 @@ enum Form {
 }
 
 // Two octets of ports at the end, or none.
-enum Optional {
+pub enum Optional {
     Missing,
     There(u16),
     Wrong,

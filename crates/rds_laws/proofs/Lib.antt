@@ -1,1 +1,2 @@
 pub mod PutTaken
+pub mod TakenRead

@@ -1,0 +1,2 @@
+pub mod Malformed
+pub mod Items
