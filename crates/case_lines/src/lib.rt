@@ -195,44 +195,6 @@ pub fn after(line: &[u8], mark: u8) -> usize
     i
 }
 
-fn set_word(fields: &mut [u64], k: u64, value: u64) {
-    if k < fields.len() as u64 {
-        let at = k as usize;
-        fields[at] = value;
-    }
-}
-
-// Sets the word that a line names at a place, or passes over what stands there; the place after it, past the line at its slash.
-fn word_at(line: &[u8], at: usize, fields: &mut [u64]) -> usize
-    requires { ⌜ at ≤ length (now line) ⌝ }
-{
-    let k = number_at(line, at);
-    let next = k.next;
-    if line.len() <= next {
-        return next;
-    }
-    if line[next] == b'/' {
-        return line.len();
-    }
-    if line[next] == b'=' {
-        let v = number_at(line, next + 1);
-        set_word(&mut *fields, k.value, v.value);
-        return v.next;
-    }
-    next + 1
-}
-
-// Sets the words that a line names from a place on, up to its slash.
-pub fn set_words(line: &[u8], from: usize, fields: &mut [u64]) {
-    let mut at = from;
-    for _turn in 0..line.len() {
-        if line.len() <= at {
-            return;
-        }
-        at = word_at(line, at, &mut *fields);
-    }
-}
-
 // Gathers the numbers of a line from a place on, up to its slash; how many they are.
 pub fn gather(line: &[u8], from: usize, list: &mut [u64]) -> usize
     ensures { λ r. ⌜ r ≤ length (now (list .exit)) ⌝ }

@@ -1,0 +1,1 @@
+// The layout of a table and the bounds of document 01, said once more as sums: laws only.
