@@ -3,7 +3,9 @@ ghost use mathlib.Core.Path.{_≡_};
 ghost use mathlib.Core.List.{[]};
 ghost use lib.ListN.{length};
 ghost use Rattle.step_outcome.specs.Carry.{lent, done, outcome};
-ghost use Rattle.call_engine.specs.Calls.{PlanReady, asRequest, asAnswer, asResult, asAbort, requested, primitived, received, fired};
+ghost use Rattle.call_primitive.specs.Primitives.{primitivePlan};
+ghost use Rattle.call_plans.specs.Calls.{Call, promised};
+ghost use Rattle.call_engine.specs.Calls.{PlanReady};
 use call_primitive::Primitive;
 use call_request::Request;
 use row_events::Event;
@@ -39,7 +41,7 @@ pub fn request(
     user_ack: bool,
     user: &[u8],
 ) -> Answer
-    ensures { λ r. ⌜ done r (now (table .exit)) (now (store .exit)) (now (output .exit)) ≡ requested (lent (now (table .entry)) (now (store .entry)) (now (output .entry)) (now (user .entry)) []) (asRequest time peer class «user_ack» (length (now (user .entry)))) ⌝ }
+    ensures { λ r. ⌜ done r (now (table .exit)) (now (store .exit)) (now (output .exit)) ≡ promised (Call.Request time peer class «user_ack») (lent (now (table .entry)) (now (store .entry)) (now (output .entry)) (now (user .entry)) []) ⌝ }
 {
     let none = [0u8; 1];
     let q = Request {
@@ -62,8 +64,8 @@ fn primitive(
     exit: &[u8],
     p: Primitive,
 ) -> Answer
-    requires { ⌜ (p .len ≡ length (now given)) × (p .«exit_len» ≡ length (now exit)) ⌝ }
-    ensures { λ r. ⌜ done r (now (table .exit)) (now (store .exit)) (now (output .exit)) ≡ primitived (lent (now (table .entry)) (now (store .entry)) (now (output .entry)) (now (given .entry)) (now (exit .entry))) p ⌝ }
+    requires { ⌜ PlanReady (lent (now table) (now store) (now output) (now given) (now exit)) (primitivePlan (now table) (length (now store)) (length (now output)) p) ⌝ }
+    ensures { λ r. ⌜ done r (now (table .exit)) (now (store .exit)) (now (output .exit)) ≡ outcome (lent (now (table .entry)) (now (store .entry)) (now (output .entry)) (now (given .entry)) (now (exit .entry))) (primitivePlan (now (table .entry)) (length (now (store .entry))) (length (now (output .entry))) p) ⌝ }
 {
     let plan = call_primitive::planned(table, store.len(), output.len(), p);
     carried(table, store, output, given, exit, plan)
@@ -80,7 +82,7 @@ pub fn answer(
     tid: u64,
     exit: &[u8],
 ) -> Answer
-    ensures { λ r. ⌜ done r (now (table .exit)) (now (store .exit)) (now (output .exit)) ≡ primitived (lent (now (table .entry)) (now (store .entry)) (now (output .entry)) [] (now (exit .entry))) (asAnswer time role peer tid (length (now (exit .entry)))) ⌝ }
+    ensures { λ r. ⌜ done r (now (table .exit)) (now (store .exit)) (now (output .exit)) ≡ promised (Call.Answer time role peer tid) (lent (now (table .entry)) (now (store .entry)) (now (output .entry)) [] (now (exit .entry))) ⌝ }
 {
     let none = [0u8; 1];
     let p = Primitive {
@@ -107,7 +109,7 @@ pub fn result(
     tid: u64,
     user: &[u8],
 ) -> Answer
-    ensures { λ r. ⌜ done r (now (table .exit)) (now (store .exit)) (now (output .exit)) ≡ primitived (lent (now (table .entry)) (now (store .entry)) (now (output .entry)) (now (user .entry)) []) (asResult time role peer tid (length (now (user .entry)))) ⌝ }
+    ensures { λ r. ⌜ done r (now (table .exit)) (now (store .exit)) (now (output .exit)) ≡ promised (Call.Result time role peer tid) (lent (now (table .entry)) (now (store .entry)) (now (output .entry)) (now (user .entry)) []) ⌝ }
 {
     let none = [0u8; 1];
     let p = Primitive {
@@ -134,7 +136,7 @@ pub fn abort(
     tid: u64,
     reason: u8,
 ) -> Answer
-    ensures { λ r. ⌜ done r (now (table .exit)) (now (store .exit)) (now (output .exit)) ≡ primitived (lent (now (table .entry)) (now (store .entry)) (now (output .entry)) [] []) (asAbort time role peer tid reason) ⌝ }
+    ensures { λ r. ⌜ done r (now (table .exit)) (now (store .exit)) (now (output .exit)) ≡ promised (Call.Abort time role peer tid reason) (lent (now (table .entry)) (now (store .entry)) (now (output .entry)) [] []) ⌝ }
 {
     let none = [0u8; 1];
     let p = Primitive {
@@ -160,7 +162,7 @@ pub fn receive(
     peer: u64,
     octets: &[u8],
 ) -> Answer
-    ensures { λ r. ⌜ done r (now (table .exit)) (now (store .exit)) (now (output .exit)) ≡ received (lent (now (table .entry)) (now (store .entry)) (now (output .entry)) (now (octets .entry)) []) time peer ⌝ }
+    ensures { λ r. ⌜ done r (now (table .exit)) (now (store .exit)) (now (output .exit)) ≡ promised (Call.Receive time peer) (lent (now (table .entry)) (now (store .entry)) (now (output .entry)) (now (octets .entry)) []) ⌝ }
 {
     let none = [0u8; 1];
     let plan = call_receive::planned(table, store.len(), output.len(), time, peer, octets);
@@ -169,7 +171,7 @@ pub fn receive(
 
 // The timer: fires one due record.
 pub fn timer(table: &mut [u8], store: &mut [u8], output: &mut [u8], time: u64) -> Answer
-    ensures { λ r. ⌜ done r (now (table .exit)) (now (store .exit)) (now (output .exit)) ≡ fired (lent (now (table .entry)) (now (store .entry)) (now (output .entry)) [] []) time ⌝ }
+    ensures { λ r. ⌜ done r (now (table .exit)) (now (store .exit)) (now (output .exit)) ≡ promised (Call.Timer time) (lent (now (table .entry)) (now (store .entry)) (now (output .entry)) [] []) ⌝ }
 {
     let none = [0u8; 1];
     let plan = call_timer::planned(table, store.len(), output.len(), time);

@@ -1,7 +1,7 @@
 -- GenTID: an accepted request counts it by one, and no other call changes it. Assumes nothing.
 use Prim.Native.Nat.{ℕ, _+_, _*_, _≤_}
 use native.Mathlib.Omega.{arith}
-use mathlib.Core.Path.{_≡_, refl, _∙_}
+use mathlib.Core.Path.{_≡_, refl, sym, ap, _∙_}
 use mathlib.Core.List.{List}
 use mathlib.Core.Bool.{Bool, true, false}
 use mathlib.Core.Logic.{_⊎_, inl, inr}
@@ -40,9 +40,9 @@ use Rattle.call_receive.proofs.Accepted.{receive-accepted}
 use Rattle.call_timer.specs.Timers.{stepBy, timerStep}
 use Rattle.call_timer.proofs.Accepted.{timer-accepted}
 use Rattle.step_outcome.specs.Carry.{Lent, tableThen, carriedOut, outcome}
-use Rattle.call_engine.specs.Calls.{storeSize, outputSize}
-use Rattle.law_calls.specs.Promise.{Call, promised, planFor}
-use Rattle.law_calls.proofs.Outcomes.{as-planned}
+use Rattle.call_plans.specs.Calls.{Call, promised, planFor, isRequest}
+use Rattle.law_ways.proofs.Ways.{Way}
+use Rattle.law_ways.proofs.CallWays.{call-ways}
 
 -- a store past the two octets of GenTID
 past : (t : List ℕ) (b : ℕ) (w : List ℕ) → 10 ≤ b → genTidOf (put t b w) ≡ genTidOf t
@@ -79,59 +79,16 @@ step-keeps-gen-tid l step e =
     after-changes (l .table) (step .changes) (l .exit)
     ∙ (rw e (exit-keeps _ (step .changes .place) (step .changes .exit) (l .exit) ∙ changed-keeps (l .table) (step .changes .place) (step .changes .change)))
 
--- every call but a request
-abbrev pub isRequest : Call → Bool
-isRequest (Call.Request time peer class userAck) = true
-isRequest (Call.Answer time role peer tid) = false
-isRequest (Call.Result time role peer tid) = false
-isRequest (Call.Abort time role peer tid reason) = false
-isRequest (Call.Receive time peer) = false
-isRequest (Call.Timer time) = false
-
 -- a step that leaves GenTID
 abbrev Leaves : Step → Type 0
 Leaves step = step .changes .«gen_tid» ≡ Kept
 
-idle-leaves : (time : ℕ) → Leaves (idleStep time)
-unfolding idleStep idleChanges
-idle-leaves time = refl
-
-primitive-leaves : (t : List ℕ) (place : ℕ) (p : Primitive) → Leaves (primitiveStep t place p)
-unfolding primitiveStep liveStep stepOf turnChanges
-primitive-leaves t place p = refl
-
-timer-leaves : (f : Found) (t : List ℕ) (time : ℕ) → Leaves (stepBy f t time)
-unfolding liveStep stepOf turnChanges
-timer-leaves (Found.At i) t time = refl
-timer-leaves Found.Nothing t time = idle-leaves time
-
-fired-leaves : (t : List ℕ) (time : ℕ) → Leaves (timerStep t time)
-unfolding timerStep
-fired-leaves t time = timer-leaves (dueOf t (count t) time) t time
-
-module _ (t : List ℕ) (time peer : ℕ) (s : List ℕ) where
-  taken-leaves : (place : ℕ) → Leaves (takenStep t place time (pduOf s))
-  unfolding takenStep liveStep stepOf turnChanges
-  taken-leaves place = refl
-
-  unmatched-leaves : (u : Unmatched t time peer s) → Leaves (unmatchedStep t (u .role) peer (u .tid) time s (pduOf s))
-  unfolding unmatchedStep openedStep openingStep openingChanges stepOf
-  unmatched-leaves u = refl
-
-  receive-leaves : (receiveStep t time peer s ≡ idleStep time) ⊎ (Taken t time peer s ⊎ Unmatched t time peer s) → Leaves (receiveStep t time peer s)
-  receive-leaves (inl e) = rw e (idle-leaves time)
-  receive-leaves (inr (inl k)) = rw (k .step-is) (taken-leaves (k .place))
-  receive-leaves (inr (inr u)) = rw (u .step-is) (unmatched-leaves u)
-
-step-leaves : (c : Call) (l : Lent) (step : Step) → isRequest c ≡ false → planFor c l ≡ Go step → Leaves step
-step-leaves (Call.Request time peer class userAck) l step r e = true-false r
-step-leaves (Call.Answer time role peer tid) l step r e = rw (primitive-accepted (l .table) (storeSize l) (outputSize l) _ step e .is-step) (primitive-leaves (l .table) _ _)
-step-leaves (Call.Result time role peer tid) l step r e = rw (primitive-accepted (l .table) (storeSize l) (outputSize l) _ step e .is-step) (primitive-leaves (l .table) _ _)
-step-leaves (Call.Abort time role peer tid reason) l step r e = rw (primitive-accepted (l .table) (storeSize l) (outputSize l) _ step e .is-step) (primitive-leaves (l .table) _ _)
-step-leaves (Call.Receive time peer) l step r e =
-    let k = receive-accepted (l .table) (storeSize l) (outputSize l) time peer (l .given) step e in
-    rw (k .step-is) (receive-leaves (l .table) time peer (l .given) (ways (l .table) (k .enters .fitting .formed) time peer (l .given)))
-step-leaves (Call.Timer time) l step r e = rw (timer-accepted (l .table) (storeSize l) (outputSize l) time step e .step-is) (fired-leaves (l .table) time)
+step-leaves : (c : Call) (l : Lent) (step : Step) → isRequest c ≡ false → Way c l step → Leaves step
+unfolding idleStep idleChanges liveStep stepOf turnChanges unmatchedStep openedStep openingStep openingChanges
+step-leaves c l step r (inl i) = rw (i .step-is) refl
+step-leaves c l step r (inr (inl k)) = rw (k .step-is) refl
+step-leaves c l step r (inr (inr (inl q))) = true-false (sym (ap isRequest (q .call-is)) ∙ r)
+step-leaves c l step r (inr (inr (inr u))) = rw (u .step-is) refl
 
 of-plan : (l : Lent) (p : Plan) → ((step : Step) → p ≡ Go step → Leaves step) → genTidOf (outcome l p .table) ≡ genTidOf (l .table)
 unfolding outcome
@@ -140,4 +97,4 @@ of-plan l (Go step) leaves = step-keeps-gen-tid l step (leaves step refl)
 
 -- only a request changes GenTID
 pub call-keeps-gen-tid : (c : Call) (l : Lent) → isRequest c ≡ false → genTidOf (promised c l .table) ≡ genTidOf (l .table)
-call-keeps-gen-tid c l r = rw (as-planned c l) (of-plan l (planFor c l) (λ step e. step-leaves c l step r e))
+call-keeps-gen-tid c l r = of-plan l (planFor c l) (λ step e. step-leaves c l step r (call-ways c l step e .way))

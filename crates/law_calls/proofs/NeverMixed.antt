@@ -10,6 +10,7 @@ use Rattle.table_layout.specs.Table.{count, genTidOf, recordAt}
 use Rattle.table_finding.specs.Finding.{freeOf, dueOf}
 use Rattle.table_finding.specs.declared.Found.{Found}
 use Rattle.table_finding.specs.declared.Found.the-variants as Found
+use Rattle.table_record.specs.declared.Role.{Role}
 use Rattle.table_record.specs.declared.State.the-variants.{IResultWait2}
 use Rattle.codec_pdu.specs.declared.Kind.the-variants as Kind
 use Rattle.codec_pdu.specs.declared.Pdu.{Pdu}
@@ -45,11 +46,11 @@ use Rattle.call_receive.proofs.Accepted.{receive-accepted}
 use Rattle.call_timer.specs.Timers.{firedGiven, firedCall, stepBy, timerStep}
 use Rattle.call_timer.proofs.Accepted.{timer-accepted}
 use Rattle.step_outcome.specs.Carry.{Lent, carriedOut, outcome}
-use Rattle.call_engine.specs.Calls.{storeSize, outputSize}
 use Rattle.law_never_mixed.specs.NeverMixed.{stepAborts, stepResults, showsAbort, showsResult}
 use Rattle.law_never_mixed.proofs.Steps.{live-never-both, live-result-exactly, opening-neither, idle-neither}
-use Rattle.law_calls.specs.Promise.{Call, promised, planFor}
-use Rattle.law_calls.proofs.Outcomes.{as-planned}
+use Rattle.call_plans.specs.Calls.{Call, promised, planFor, timeOf}
+use Rattle.law_ways.proofs.Ways.{Way}
+use Rattle.law_ways.proofs.CallWays.{call-ways}
 
 -- a step does not show both
 abbrev Apart : Step → Type 0
@@ -68,45 +69,18 @@ unfolding requestStep
 request-apart t place q =
     quiet (requestStep t place q) (opening-neither t (requestedOf (q .class % 256)) (requester t place q) (requestGiven q) (Set (nextTid (genTidOf t))) (requestCall q))
 
-primitive-apart : (t : List ℕ) (place : ℕ) (p : Primitive) → Apart (primitiveStep t place p)
-unfolding primitiveStep
-primitive-apart t place p = live-never-both t place (p .event) (primitiveGiven p) (primitiveCall p)
-
-timer-apart : (f : Found) (t : List ℕ) (time : ℕ) → Apart (stepBy f t time)
-timer-apart (Found.At i) t time = live-never-both t i Event.Timer (firedGiven time) firedCall
-timer-apart Found.Nothing t time = quiet (idleStep time) (idle-neither time)
-
-fired-apart : (t : List ℕ) (time : ℕ) → Apart (timerStep t time)
-unfolding timerStep
-fired-apart t time = timer-apart (dueOf t (count t) time) t time
-
-live-apart : (t : List ℕ) (place time : ℕ) (p : Pdu) → Apart (takenStep t place time p)
-unfolding takenStep
-live-apart t place time p = live-never-both t place (eventOf (p .kind)) (takenGiven time p) (takenCall p)
-
-module _ (t : List ℕ) (time peer : ℕ) (s : List ℕ) where
-  unmatched-apart : (u : Unmatched t time peer s) → Apart (unmatchedStep t (u .role) peer (u .tid) time s (pduOf s))
-  unfolding unmatchedStep openedStep
-  unmatched-apart u =
-      let p : Pdu = pduOf s in
-      let h : Holder = arriverOf (placeFor (freeOf t (count t))) (u .role) peer (u .tid) (p .kind) in
-      quiet (unmatchedStep t (u .role) peer (u .tid) time s p) (opening-neither t (arrivalOpening t peer (u .tid) s p) h (openedGiven time p) Kept (openedCall p))
-
-  receive-apart : (receiveStep t time peer s ≡ idleStep time) ⊎ (Taken t time peer s ⊎ Unmatched t time peer s) → Apart (receiveStep t time peer s)
-  receive-apart (inl e) = rw e (quiet (idleStep time) (idle-neither time))
-  receive-apart (inr (inl k)) = rw (k .step-is) (live-apart t (k .place) time (pduOf s))
-  receive-apart (inr (inr u)) = rw (u .step-is) (unmatched-apart u)
+unmatched-apart : (t : List ℕ) (role : Role) (peer tid time : ℕ) (s : List ℕ) (p : Pdu) → Apart (unmatchedStep t role peer tid time s p)
+unfolding unmatchedStep openedStep
+unmatched-apart t role peer tid time s p =
+    let h : Holder = arriverOf (placeFor (freeOf t (count t))) role peer tid (p .kind) in
+    quiet (unmatchedStep t role peer tid time s p) (opening-neither t (arrivalOpening t peer tid s p) h (openedGiven time p) Kept (openedCall p))
 
 -- the step of any accepted call
-pub step-apart : (c : Call) (l : Lent) (step : Step) → planFor c l ≡ Go step → Apart step
-step-apart (Call.Request time peer class userAck) l step e = rw (request-accepted (l .table) (storeSize l) (outputSize l) _ step e .step-is) (request-apart (l .table) _ _)
-step-apart (Call.Answer time role peer tid) l step e = rw (primitive-accepted (l .table) (storeSize l) (outputSize l) _ step e .is-step) (primitive-apart (l .table) _ _)
-step-apart (Call.Result time role peer tid) l step e = rw (primitive-accepted (l .table) (storeSize l) (outputSize l) _ step e .is-step) (primitive-apart (l .table) _ _)
-step-apart (Call.Abort time role peer tid reason) l step e = rw (primitive-accepted (l .table) (storeSize l) (outputSize l) _ step e .is-step) (primitive-apart (l .table) _ _)
-step-apart (Call.Receive time peer) l step e =
-    let k = receive-accepted (l .table) (storeSize l) (outputSize l) time peer (l .given) step e in
-    rw (k .step-is) (receive-apart (l .table) time peer (l .given) (ways (l .table) (k .enters .fitting .formed) time peer (l .given)))
-step-apart (Call.Timer time) l step e = rw (timer-accepted (l .table) (storeSize l) (outputSize l) time step e .step-is) (fired-apart (l .table) time)
+pub step-apart : (c : Call) (l : Lent) (step : Step) → Way c l step → Apart step
+step-apart c l step (inl i) = rw (i .step-is) (quiet (idleStep (timeOf c)) (idle-neither (timeOf c)))
+step-apart c l step (inr (inl k)) = rw (k .step-is) (live-never-both (l .table) (k .place) (k .event) (k .given) (k .asked))
+step-apart c l step (inr (inr (inl q))) = rw (q .accepted .step-is) (request-apart (l .table) _ _)
+step-apart c l step (inr (inr (inr u))) = rw (u .step-is) (unmatched-apart (l .table) (u .unmatched .role) (u .peer) (u .unmatched .tid) (u .time) (l .given) (pduOf (l .given)))
 
 of-plan : (l : Lent) (p : Plan) → ((step : Step) → p ≡ Go step → Apart step) → showsAbort (outcome l p .answer) && showsResult (outcome l p .answer) ≡ false
 unfolding outcome carriedOut
@@ -115,7 +89,7 @@ of-plan l (Go step) apart = apart step refl
 
 -- NEVER MIXED UP: no call's answer shows both an abort and a result
 pub never-both : (c : Call) (l : Lent) → showsAbort (promised c l .answer) && showsResult (promised c l .answer) ≡ false
-never-both c l = rw (as-planned c l) (of-plan l (planFor c l) (λ step e. step-apart c l step e))
+never-both c l = of-plan l (planFor c l) (λ step e. step-apart c l step (call-ways c l step e .way))
 
 -- a step that shows a result shows no abort
 no-abort : (a r : Bool) → a && r ≡ false → r ≡ true → a ≡ false
@@ -133,9 +107,13 @@ module _ (t : List ℕ) (place time : ℕ) (p : Pdu) (gtr rid : Bool) (waits : r
       live-result-exactly t place (eventOf (p .kind)) (takenGiven time p) (takenCall p)
       ∙ rw (waits, pdu) (takes rid)
 
+  apart : Apart (takenStep t place time p)
+  unfolding takenStep
+  apart = live-never-both t place (eventOf (p .kind)) (takenGiven time p) (takenCall p)
+
   -- "A Result with no data is a true result": a Result taken in RESULT WAIT is shown as a result and not as an abort, whatever its data
   pub result-shown : (stepResults (takenStep t place time p) ≡ true) × (stepAborts (takenStep t place time p) ≡ false)
-  result-shown = (shows-result, no-abort _ _ (live-apart t place time p) shows-result)
+  result-shown = (shows-result, no-abort _ _ apart shows-result)
 
 -- a result that a step shows has the PDU's user data, empty where that is empty
 pub result-data : (i : Indication) (h : Holder) (p : Pdu) (peer tid : ℕ) (place : Place) → shownOf i (contextOf h (takenCall p)) ≡ Shown.Result peer tid place

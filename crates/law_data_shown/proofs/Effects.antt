@@ -22,10 +22,11 @@ use Rattle.step_outcome.specs.Carry.{Lent, Done, CellFits, cellWritten, tableTh
 use Rattle.law_steps_sound.specs.Sound.{Fits, Sound}
 use Rattle.law_plans_sound.specs.Plans.{PlanSound, OutsideMessage, Kept}
 use Rattle.law_plans_sound.proofs.Outcome.{step-keeps, still-fits}
-use Rattle.law_calls.specs.Promise.{planFor}
-use Rattle.law_calls.proofs.Outcomes.{as-planned, call-sound}
+use Rattle.call_plans.specs.Calls.{planFor}
+use Rattle.law_plans_sound.proofs.CallSound.{call-sound}
 use Rattle.law_history.specs.Trace.{Entry, Promise}
-use Rattle.law_data_shown.proofs.Ways.{Accepted, call-ways}
+use Rattle.law_ways.proofs.Ways.{Accepted}
+use Rattle.law_ways.proofs.CallWays.{call-ways}
 use Rattle.law_data_shown.proofs.Fields.{left-there, put-there, cleared-there}
 use Rattle.law_data_shown.proofs.Cells.{part-same, part-written}
 
@@ -65,8 +66,8 @@ module _ (l : Lent) (step : Step) (f : Fits l) (small : step .message .len ≤ c
       ∙ (ap (λ (n : ℕ). (n - headerSize) / recordSize * cellSize) (kept .table .same-length) ∙ sym (f .cells))
 
   outside : (j n k : ℕ) → (j < step .changes .place) ⊎ (step .changes .place < j) → n ≤ cellSize → j * cellSize ≤ k → k < j * cellSize + n → OutsideMessage step k
-  outside j n k (inl h) room from to = inl (omega arith)
-  outside j n k (inr h) room from to = inr (omega arith)
+  outside j n k (inl h) room from to = inr (inl (omega arith))
+  outside j n k (inr h) room from to = inr (inr (omega arith))
 
   unwritten-store : step .cell ≡ false → storeThen l step ≡ l .store
   unfolding storeThen
@@ -104,7 +105,7 @@ pub record Effect (e : Entry) (step : Step) : Type 0 where
 
 -- an entry's outcome is that of its plan
 pub done-is : (e : Entry) → Promise e → (q : Plan) → planFor (e .call) (e .lent) ≡ q → e .done ≡ outcome (e .lent) q
-done-is e p q is = p .keeps ∙ (as-planned (e .call) (e .lent) ∙ ap (outcome (e .lent)) is)
+done-is e p q is = p .keeps ∙ ap (outcome (e .lent)) is
 
 pub effect : (e : Entry) → Promise e → (step : Step) → planFor (e .call) (e .lent) ≡ Go step → Effect e step
 unfolding outcome PlanSound

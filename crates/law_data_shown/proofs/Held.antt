@@ -1,5 +1,5 @@
 -- After any call the cell of each record in TIDOK WAIT holds the data of the Invoke that opened it. Assumes nothing.
-use Prim.Native.Nat.{ℕ, _*_, _≤_, _<_}
+use Prim.Native.Nat.{ℕ, _*_, _%_, _≤_, _<_}
 use native.Mathlib.Omega.{arith}
 use borrow.Author.Tests.{eqb-false}
 use mathlib.Core.Path.{_≡_, refl, sym, ap, _∙_}
@@ -17,7 +17,8 @@ use Rattle.table_record.specs.declared.State.the-variants as State
 use Rattle.table_record.specs.declared.Record.{Record}
 use Rattle.codec_pdu.specs.declared.Pdu.{Pdu}
 use Rattle.codec_reading.specs.Read.{pduOf}
-use Rattle.table_layout.specs.Table.{count, recordAt}
+use Rattle.table_layout.specs.Table.{count, genTidOf, recordAt}
+use Rattle.table_tids.specs.Tids.{nextTid}
 use Rattle.table_finding.proofs.Tests.{Called}
 use Rattle.law_formed_kept.proofs.InRecord.{equal-or}
 use Rattle.law_places.proofs.Places.{live-number, live-range}
@@ -28,7 +29,7 @@ use Rattle.step_arrivals.specs.Arrivals.{arrivedOf}
 use Rattle.row_turns.specs.declared.Given.{Given}
 use Rattle.row_turns.specs.declared.Turn.{Turn}
 use Rattle.step_commit.specs.declared.Header.{Header}
-use Rattle.step_commit.specs.declared.Header.the-variants.{Kept}
+use Rattle.step_commit.specs.declared.Header.the-variants.{Kept, Set}
 use Rattle.step_changes.specs.Changes.{changeOf, turnChanges}
 use Rattle.step_opening.specs.Opens.{openedTurn, openingChanges, openingStep}
 use Rattle.step_live.specs.Turning.{liveTurn, liveStep}
@@ -39,16 +40,18 @@ use Rattle.step_plan.specs.declared.Call.{Call as Asked}
 use Rattle.step_plan.specs.declared.Step.{Step}
 use Rattle.step_plan.specs.declared.Plan.{Plan}
 use Rattle.step_plan.specs.declared.Plan.the-variants.{Refuse, Go}
+use Rattle.call_request.specs.Requests.{requester, requestGiven, requestCall, requestStep}
+use Rattle.call_request.specs.declared.Request.{Request}
 use Rattle.call_receive.specs.Receives.{userPart, keptPart, arriverOf, openedGiven, openedCall, openedStep, arrivalOpening, unmatchedStep}
 use Rattle.call_receive.proofs.Ways.{Unmatched}
 use Rattle.step_outcome.specs.Carry.{Done, outcome}
 use Rattle.law_steps_sound.specs.Sound.{Fits}
-use Rattle.law_calls.specs.Promise.{planFor}
+use Rattle.call_plans.specs.Calls.{planFor, timeOf}
 use Rattle.law_history.specs.Trace.{Entry, Promise}
 use Rattle.law_history.specs.Moves.{before, after}
 use Rattle.law_history.specs.Demand.{userData, openedData}
 use Rattle.law_data_shown.specs.Cells.{inTidokWait, responder, CellHolds, CellsHold}
-use Rattle.law_data_shown.proofs.Ways.{Requested, Way}
+use Rattle.law_ways.proofs.Ways.{Way}
 use Rattle.law_data_shown.proofs.Effects.{Left, Effect, done-is, effect}
 use Rattle.law_data_shown.proofs.Living.{called-lives, data-stays}
 use Rattle.law_data_shown.proofs.Verifying.{StillWaits, live-stays, isToVerify, none-writes-none, Verifies, opens-waiting}
@@ -158,9 +161,11 @@ module _ (e : Entry) (h : List Entry) (was : CellsHold (before e) (e .lent .stor
   requested-not : (class : ℕ) → isToVerify (requestedOf class) ≡ false
   requested-not class = requested-one (λ (o : Opening). isToVerify o ≡ false) refl refl refl class
 
-  requested-holds : (step : Step) (q : Requested (e .lent) step) → Left (e .lent) (openingStep (before e) (requestedOf (q .class)) (q .holder) (q .given) (q .genTid) (q .asked)) (e .done) → Holds (q .holder .place)
-  requested-holds step q left =
-      opening-holds (requestedOf (q .class)) (q .holder) (q .given) (q .genTid) (q .asked) left (λ v live. true-false (sym (v .to-verify) ∙ requested-not (q .class)))
+  requested-holds : (place : ℕ) (q : Request) → Left (e .lent) (requestStep (before e) place q) (e .done) → Holds place
+  unfolding requestStep requester
+  requested-holds place q left =
+      opening-holds (requestedOf (q .class % 256)) (requester (before e) place q) (requestGiven q) (Set (nextTid (genTidOf (before e)))) (requestCall q) left
+      (λ v live. true-false (sym (v .to-verify) ∙ requested-not (q .class % 256)))
 
   -- an Invoke to be verified
   module _ (time peer : ℕ) (u : Unmatched (before e) time peer (e .lent .given)) where
@@ -192,10 +197,10 @@ module _ (e : Entry) (h : List Entry) (was : CellsHold (before e) (e .lent .stor
             rw (o .there, v .same-len, o .peer-is, o .tid-is) (left .written (v .written) ∙ (whole ∙ sym (o .data-is h)))
 
   at-place : (step : Step) → Way (e .call) (e .lent) step → Left (e .lent) step (e .done) → Holds (step .changes .place)
-  unfolding idleStep idleChanges liveStep stepOf turnChanges openingStep openingChanges unmatchedStep openedStep
-  at-place step (inl (time, is)) left = rw is (idle-holds time (rw is at left))
+  unfolding idleStep idleChanges liveStep stepOf turnChanges openingStep openingChanges requestStep requester unmatchedStep openedStep
+  at-place step (inl i) left = rw (i .step-is) (idle-holds (timeOf (e .call)) (rw (i .step-is) at left))
   at-place step (inr (inl k)) left = rw (k .step-is) (lived-holds (k .place) (k .event) (k .given) (k .asked) (rw (k .step-is) at left))
-  at-place step (inr (inr (inl q))) left = rw (q .step-is) (requested-holds step q (rw (q .step-is) at left))
+  at-place step (inr (inr (inl q))) left = rw (q .accepted .step-is) (requested-holds _ _ (rw (q .accepted .step-is) at left))
   at-place step (inr (inr (inr a))) left = rw (a .step-is) (arrived-holds (a .time) (a .peer) (a .unmatched) (rw (a .step-is) at left))
 
   accepted-holds : (step : Step) → Effect e step → CellsHold (after e) (e .done .store) (e ∷ h)

@@ -15,7 +15,7 @@ use Rattle.step_shown.specs.declared.Context.{Context}
 use Rattle.step_shown.specs.declared.Shown.{Shown}
 use Rattle.step_shown.specs.declared.Shown.the-variants as Shown
 use Rattle.law_never_mixed.specs.NeverMixed.{resultShown}
-use Rattle.law_data_shown.proofs.Ways.{isResultEvent}
+use Rattle.law_ways.proofs.Ways.{isResultEvent}
 
 -- an event that is a Result, TTR set, is such a PDU
 pub record TakenKind (k : Kind) : Type 0 where

@@ -1,5 +1,5 @@
 -- An Invoke of class 1 or 2 is shown with the exact data of the Invoke that opened its record, also after verification. Assumes nothing.
-use Prim.Native.Nat.{ℕ, _+_, _*_, _≤_}
+use Prim.Native.Nat.{ℕ, _+_, _*_, _%_, _≤_}
 use native.Mathlib.Omega.{arith}
 use mathlib.Core.Path.{_≡_, refl, sym, ap, _∙_}
 use mathlib.Core.Bool.{Bool, true, false}
@@ -42,17 +42,19 @@ use Rattle.step_plan.specs.declared.Call.{Call as Asked}
 use Rattle.step_plan.specs.declared.Step.{Step}
 use Rattle.step_plan.specs.declared.Plan.{Plan}
 use Rattle.step_plan.specs.declared.Plan.the-variants.{Refuse, Go}
+use Rattle.call_request.specs.Requests.{requester, requestGiven, requestCall, requestStep}
+use Rattle.call_request.specs.declared.Request.{Request}
 use Rattle.call_receive.specs.Receives.{userPart, arriverOf, openedGiven, openedCall, openedStep, arrivalOpening, unmatchedStep}
 use Rattle.call_receive.proofs.Ways.{Unmatched}
 use Rattle.step_outcome.specs.Carry.{Lent, carriedOut, outcome}
 use Rattle.law_steps_sound.specs.Sound.{Fits}
-use Rattle.law_calls.specs.Promise.{planFor}
+use Rattle.call_plans.specs.Calls.{planFor}
 use Rattle.law_history.specs.Trace.{Entry, Promise}
 use Rattle.law_history.specs.Moves.{before}
 use Rattle.law_history.specs.Demand.{openedData, InvokeExact}
 use Rattle.law_one_turn.proofs.Arrivals.{same-class}
 use Rattle.law_data_shown.specs.Cells.{responder, CellsHold}
-use Rattle.law_data_shown.proofs.Ways.{Lived, Requested, Way}
+use Rattle.law_ways.proofs.Ways.{Lived, Way}
 use Rattle.law_data_shown.proofs.Indicated.{shows-invoke}
 use Rattle.law_data_shown.proofs.Results.{StepShows, same-shows, shows-as, user-shown}
 use Rattle.law_data_shown.proofs.Effects.{Left, done-is, effect}
@@ -94,11 +96,11 @@ module _ (peer tid class : ℕ) (up : Bool) (place : Place) where
       let x = shows-invoke (turn .second) (contextOf h c) peer tid class up place s in
       record { verified = x .verified; indicates = inr (x .indicated); peer-is = x .peer-is; tid-is = x .tid-is; class-is = x .class-is; place-is = x .place-is }
 
-  request-none : (l : Lent) (step : Step) (q : Requested l step) → StepShows (openingStep (l .table) (requestedOf (q .class)) (q .holder) (q .given) (q .genTid) (q .asked)) invoke → ⊥
-  unfolding openingStep openedTurn
-  request-none l step q s =
-      let x = step-invoke (openedTurn (l .table) (requestedOf (q .class)) (q .holder) (q .given)) _ (q .holder) (q .asked) s in
-      requested-shows-none (q .class) _ (q .given) _ _ (x .verified) (x .indicates)
+  request-none : (t : List ℕ) (at : ℕ) (q : Request) → StepShows (requestStep t at q) invoke → ⊥
+  unfolding requestStep openingStep openedTurn
+  request-none t at q s =
+      let x = step-invoke (openedTurn t (requestedOf (q .class % 256)) (requester t at q) (requestGiven q)) _ (requester t at q) (requestCall q) s in
+      requested-shows-none (q .class % 256) _ (requestGiven q) _ _ (x .verified) (x .indicates)
 
   nothing-shown : (Shown.Nothing ≡ invoke) ⊎ (Shown.Nothing ≡ invoke) → ⊥
   nothing-shown (inl s) = true-false (sym (ap (byKind false true false false false) s))
@@ -182,9 +184,9 @@ module _ (peer tid class : ℕ) (up : Bool) (place : Place) where
 
     by-way : (step : Step) → Fits (e .lent) → Left (e .lent) step (e .done) → Way (e .call) (e .lent) step → StepShows step invoke → Exact
     unfolding idleStep unmatchedStep openedStep
-    by-way step fits left (inl (time, is)) s = absurd (nothing-shown (same-shows is s))
+    by-way step fits left (inl i) s = absurd (nothing-shown (same-shows (i .step-is) s))
     by-way step fits left (inr (inl k)) s = lived-exact step k fits (rw (k .step-is) at left) (same-shows (k .step-is) s)
-    by-way step fits left (inr (inr (inl q))) s = absurd (request-none (e .lent) step q (same-shows (q .step-is) s))
+    by-way step fits left (inr (inr (inl q))) s = absurd (request-none (e .lent .table) _ _ (same-shows (q .accepted .step-is) s))
     by-way step fits left (inr (inr (inr a))) s = arrived-exact (a .time) (a .peer) (a .unmatched) (rw (a .step-is) at left) (same-shows (a .step-is) s)
 
 pub invoke-exact : (e : Entry) → Promise e → (h : List Entry) → CellsHold (before e) (e .lent .store) h → InvokeExact e h

@@ -32,15 +32,17 @@ use Rattle.step_plan.specs.declared.Plan.{Plan}
 use Rattle.step_plan.specs.declared.Plan.the-variants.{Refuse, Go}
 use Rattle.step_live.specs.Turning.{holderOf, liveStep}
 use Rattle.step_opening.specs.Opens.{openingStep}
+use Rattle.call_request.specs.Requests.{requestStep}
 use Rattle.call_receive.specs.Receives.{userPart, takenCall, openedStep, unmatchedStep}
 use Rattle.call_receive.proofs.Kept.{user-inside}
 use Rattle.step_outcome.specs.Carry.{Done, carriedOut, outcome}
 use Rattle.law_never_mixed.specs.NeverMixed.{stepResults, stepAborts, resultShown}
 use Rattle.law_never_mixed.proofs.Steps.{live-result-exactly, opening-neither}
-use Rattle.law_calls.specs.Promise.{Call, planFor}
+use Rattle.call_plans.specs.Calls.{Call, planFor, timeOf}
 use Rattle.law_history.specs.Trace.{Entry, Promise}
 use Rattle.law_history.specs.Demand.{ShownIn, userData, ResultTaken, ResultExact}
-use Rattle.law_data_shown.proofs.Ways.{isResultEvent, Came, Lived, Way, call-ways}
+use Rattle.law_ways.proofs.Ways.{isResultEvent, Came, Lived, Way}
+use Rattle.law_ways.proofs.CallWays.{call-ways}
 use Rattle.law_data_shown.proofs.Effects.{done-is}
 use Rattle.law_data_shown.proofs.Indicated.{result-kind, ShowsResult, shows-result}
 
@@ -135,10 +137,10 @@ module _ (peer tid : ℕ) (place : Place) where
           go (inr none) = true-false (sym (parts .1) ∙ none)
 
     by-way : Way (e .call) (e .lent) step → StepShows step result → ResultTaken e peer tid place
-    unfolding idleStep unmatchedStep openedStep
-    by-way (inl (time, is)) s = absurd (none-shown (idleStep time) refl (same-shows is s))
+    unfolding idleStep requestStep unmatchedStep openedStep
+    by-way (inl i) s = absurd (none-shown (idleStep (timeOf (e .call))) refl (same-shows (i .step-is) s))
     by-way (inr (inl k)) s = live-taken k (same-shows (k .step-is) s) (k .came)
-    by-way (inr (inr (inl q))) s = absurd (opening-none _ _ _ _ _ _ (same-shows (q .step-is) s))
+    by-way (inr (inr (inl q))) s = absurd (opening-none _ _ _ _ _ _ (same-shows (q .accepted .step-is) s))
     by-way (inr (inr (inr a))) s = absurd (opening-none _ _ _ _ _ _ (same-shows (a .step-is) s))
 
 pub result-exact : (e : Entry) → Promise e → (h : List Entry) → ResultExact e h

@@ -7,7 +7,7 @@ use denote.Triple.Clauses.{AtExit}
 use borrow.Fn.Kinds.{endedOf}
 use borrow.Fn.World.{ArgsD, ResD}
 use Rattle.step_outcome.specs.Carry.{lent, done}
-use Rattle.law_calls.specs.Promise.{Call}
+use Rattle.call_plans.specs.Calls.{Call}
 use Rattle.law_history.specs.Trace.{Promise}
 use Rattle.call_engine.proofs.request as request
 use Rattle.call_engine.proofs.request.Reads as request-reads

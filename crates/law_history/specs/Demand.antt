@@ -20,7 +20,7 @@ use Rattle.step_shown.specs.declared.Shown.{Shown}
 use Rattle.step_shown.specs.declared.Shown.the-variants as Shown
 use Rattle.step_outcome.specs.declared.Answer.{Answer}
 use Rattle.step_outcome.specs.declared.Answer.the-variants.{Refused, Taken}
-use Rattle.law_calls.specs.Promise.{Call}
+use Rattle.call_plans.specs.Calls.{Call}
 use Rattle.law_history.specs.Trace.{Entry, Throughout}
 use Rattle.law_history.specs.Tally.{Name, adds, opens, tally}
 use Rattle.law_history.specs.Moves.{before, after, SameRecords, OthersSame}

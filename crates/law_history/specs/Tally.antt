@@ -20,7 +20,7 @@ use Rattle.step_plan.specs.declared.Told.{Told}
 use Rattle.step_plan.specs.declared.Told.the-variants as Told
 use Rattle.step_outcome.specs.declared.Answer.{Answer}
 use Rattle.step_outcome.specs.declared.Answer.the-variants.{Refused, Taken}
-use Rattle.law_calls.specs.Promise.{Call}
+use Rattle.call_plans.specs.Calls.{Call, peerIn, isRequest}
 use Rattle.law_history.specs.Trace.{Entry}
 
 -- "role, peer and TID"
@@ -45,23 +45,19 @@ abbrev pub sentOf : Answer → List ℕ → List ℕ
 sentOf (Refused r) output = []
 sentOf (Taken sent told first second) output = part output 0 sent
 
--- whom they go to: the peer of the call, or of the record that was fired
-abbrev pub firedPeer : Told → ℕ
-firedPeer Told.Nothing = 0
-firedPeer (Told.Tid tid) = 0
-firedPeer (Told.Fired role peer tid) = peer
-
+-- what an accepted call tells: the TID that a request was given, the record that was fired
 abbrev pub toldOf : Answer → Told
 toldOf (Refused r) = Told.Nothing
 toldOf (Taken sent told first second) = told
 
+-- whom they go to: the peer that the call names, or that of the record that was fired
+abbrev pub peerTold : Told → ℕ → ℕ
+peerTold Told.Nothing peer = peer
+peerTold (Told.Tid tid) peer = peer
+peerTold (Told.Fired role fired tid) peer = fired
+
 abbrev pub peerOf : Call → Answer → ℕ
-peerOf (Call.Request time peer class userAck) a = peer
-peerOf (Call.Answer time role peer tid) a = peer
-peerOf (Call.Result time role peer tid) a = peer
-peerOf (Call.Abort time role peer tid reason) a = peer
-peerOf (Call.Receive time peer) a = peer
-peerOf (Call.Timer time) a = firedPeer (toldOf a)
+peerOf c a = peerTold (toldOf a) (peerIn c)
 
 -- what a PDU of this type and first octet adds for its sender: an initiator's Invoke (type 1) or TIDok (type 3, Tve/Tok set), a responder's Result (type 2), an Abort (type 4) of the user (flags 1)
 unfoldable pub ofType : Role → ℕ → ℕ → Counts
@@ -92,15 +88,13 @@ abbrev pub lives : List ℕ → Name → Bool
 lives t n = isFound (namedOf t (count t) (n .role) (n .peer) (n .tid))
 
 -- a request that was accepted with this TID, of class 0 too
+abbrev pub givenTid : Told → ℕ → Name → Bool
+givenTid Told.Nothing peer n = false
+givenTid (Told.Tid tid) peer n = isNamed n Initiator peer tid
+givenTid (Told.Fired role fired tid) peer n = false
+
 abbrev pub acceptsBy : Call → Told → Name → Bool
-acceptsBy (Call.Request time peer class userAck) (Told.Tid tid) n = isNamed n Initiator peer tid
-acceptsBy (Call.Request time peer class userAck) Told.Nothing n = false
-acceptsBy (Call.Request time peer class userAck) (Told.Fired role p tid) n = false
-acceptsBy (Call.Answer time role peer tid) told n = false
-acceptsBy (Call.Result time role peer tid) told n = false
-acceptsBy (Call.Abort time role peer tid reason) told n = false
-acceptsBy (Call.Receive time peer) told n = false
-acceptsBy (Call.Timer time) told n = false
+acceptsBy c told n = pick (isRequest c) (givenTid told (peerIn c) n) false
 
 -- "counted by its acceptance", "A record opened by a received Invoke": the count under a name starts anew
 abbrev pub opensFor : Role → Entry → Name → Bool

@@ -3,7 +3,7 @@ use Prim.Native.Nat.{ℕ}
 use mathlib.Core.Path.{_≡_}
 use mathlib.Core.List.{List, [], _∷_}
 use Rattle.step_outcome.specs.Carry.{Lent, Done}
-use Rattle.law_calls.specs.Promise.{Call, promised, Lends}
+use Rattle.call_plans.specs.Calls.{Call, promised, Lends}
 
 -- what the history keeps of a call: what was asked, what was lent, what it gave and left
 pub record Entry : Type 0 where

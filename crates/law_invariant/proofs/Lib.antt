@@ -1,7 +1,6 @@
 pub mod Counted
 pub mod Names
 pub mod Refused
-pub mod Entered
 pub mod Kept
 pub mod Through
 pub mod Fresh

@@ -14,8 +14,7 @@ use Rattle.step_plan.specs.declared.Told.the-variants as Told
 use Rattle.step_plan.specs.declared.Plan.the-variants.{Refuse}
 use Rattle.step_outcome.specs.Carry.{Done, done, outcome}
 use Rattle.step_outcome.specs.declared.Answer.the-variants.{Refused}
-use Rattle.law_calls.specs.Promise.{Call, planFor}
-use Rattle.law_calls.proofs.Outcomes.{as-planned}
+use Rattle.call_plans.specs.Calls.{Call, planFor, isRequest}
 use Rattle.law_history.specs.Trace.{Entry, Promise}
 use Rattle.law_history.specs.Tally.{Name, isNamed, ofType, senderRole, ofSent, peerOf, adds, lives, acceptsBy, opensFor, opens}
 use Rattle.law_history.specs.Moves.{Quiet}
@@ -36,12 +35,11 @@ none-sent n peer = go (isNamed n (senderRole []) peer (tidOf [] % 32768))
 
 -- no TID is told
 none-accepted : (c : Call) (n : Name) → acceptsBy c Told.Nothing n ≡ false
-none-accepted (Call.Request time peer class userAck) n = refl
-none-accepted (Call.Answer time role peer tid) n = refl
-none-accepted (Call.Result time role peer tid) n = refl
-none-accepted (Call.Abort time role peer tid reason) n = refl
-none-accepted (Call.Receive time peer) n = refl
-none-accepted (Call.Timer time) n = refl
+none-accepted c n = go (isRequest c)
+  where
+    go : (b : Bool) → pick b false false ≡ false
+    go true = refl
+    go false = refl
 
 module _ (e : Entry) (r : Refusal) (is : e .done ≡ done (Refused r) (e .lent .table) (e .lent .store) (e .lent .output)) where
   nothing-added : (n : Name) → adds e n ≡ none
@@ -66,7 +64,7 @@ module _ (e : Entry) (r : Refusal) (is : e .done ≡ done (Refused r) (e .lent .
 -- "A refusal gives only its number and changes no lent byte"
 pub refused-is : (e : Entry) → Promise e → (r : Refusal) → planFor (e .call) (e .lent) ≡ Refuse r → e .done ≡ done (Refused r) (e .lent .table) (e .lent .store) (e .lent .output)
 unfolding outcome
-refused-is e p r q = p .keeps ∙ as-planned (e .call) (e .lent) ∙ ap (outcome (e .lent)) q
+refused-is e p r q = p .keeps ∙ ap (outcome (e .lent)) q
 
 pub refused-quiet : (e : Entry) → Promise e → (r : Refusal) → planFor (e .call) (e .lent) ≡ Refuse r → Quiet e
 refused-quiet e p r q = quiet e r (refused-is e p r q)

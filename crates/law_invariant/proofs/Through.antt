@@ -11,13 +11,14 @@ use Rattle.step_plan.specs.declared.Plan.the-variants.{Refuse, Go}
 use Rattle.step_outcome.specs.Carry.{Done}
 use Rattle.law_steps_sound.specs.Sound.{Fits}
 use Rattle.law_plans_sound.specs.Plans.{Kept, StillFits}
-use Rattle.law_calls.specs.Promise.{planFor}
+use Rattle.call_plans.specs.Calls.{planFor}
 use Rattle.law_calls.proofs.Outcomes.{call-still-fits, call-keeps}
 use Rattle.law_history.specs.Trace.{Entry, Promise, Run, Throughout}
 use Rattle.law_history.specs.Moves.{before, after}
 use Rattle.law_invariant.specs.Invariant.{Inv, Moves, Sizes, NotForSize, Held}
 use Rattle.law_invariant.proofs.Refused.{refused-is, refused-quiet}
-use Rattle.law_invariant.proofs.Entered.{goes-fits, fits-not-refused}
+use Rattle.law_ways.proofs.CallWays.{call-ways}
+use Rattle.law_ways.proofs.NumberOne.{fits-not-refused}
 use Rattle.law_invariant.proofs.Kept.{Around, Stepped, quiet-keeps, move-keeps}
 
 -- what holds of every entry that keeps its contract holds throughout
@@ -33,7 +34,7 @@ module _ (e : Entry) (p : Promise e) where
 
   accepted-around : (step : Step) → planFor (e .call) (e .lent) ≡ Go step → Around e
   accepted-around step q =
-      let f : Fits (e .lent) = goes-fits (e .call) (e .lent) step q in
+      let f : Fits (e .lent) = call-ways (e .call) (e .lent) step q .fits in
       let k : Kept (e .lent) (e .done) step = subst (λ (d : Done). Kept (e .lent) d step) (sym (p .keeps)) (call-keeps (e .call) (e .lent) step (p .lends) f q) in
       record { formed = still f .formed; same-count = rw (k .table .same-length) refl; same-settings = k .table .settings }
 
@@ -52,7 +53,7 @@ module _ (e : Entry) (p : Promise e) where
     where
       go : (plan : Plan) → planFor (e .call) (e .lent) ≡ plan → Sizes (after e) (e .done .store)
       go (Refuse r) q = rw (same-table r q, same-store r q) z
-      go (Go step) q = let k = still (goes-fits (e .call) (e .lent) step q) in record { formed = k .formed; cells = k .cells }
+      go (Go step) q = let k = still (call-ways (e .call) (e .lent) step q .fits) in record { formed = k .formed; cells = k .cells }
 
   not-for-size : Sizes (before e) (e .lent .store) → (h : List Entry) → NotForSize e h
   not-for-size z h room q = fits-not-refused (e .call) (e .lent) (record { formed = z .formed; cells = z .cells; room = room }) q
@@ -74,7 +75,7 @@ module _ (moves : Moves) (max : ℕ) where
     where
       go : (plan : Plan) → planFor (e .call) (e .lent) ≡ plan → Stepped max e h
       go (Refuse r) q = quiet-keeps max e h v (refused-around e p r q (v .formed)) (refused-quiet e p r q)
-      go (Go step) q = move-keeps max e h v (accepted-around e p step q) (moves e p (goes-fits (e .call) (e .lent) step q) step q)
+      go (Go step) q = move-keeps max e h v (accepted-around e p step q) (moves e p step q)
 
   -- from any start that satisfies it
   pub kept-through : {t₀ s₀ t s : List ℕ} {h : List Entry} → Inv max t₀ [] → Run t₀ s₀ t s h → Held max t h

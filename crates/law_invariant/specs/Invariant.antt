@@ -11,8 +11,7 @@ use Rattle.table_well_formed.specs.WellFormed.{WellFormed}
 use Rattle.law_counting.specs.Counting.{Fits, Limits}
 use Rattle.step_plan.specs.declared.Step.{Step}
 use Rattle.step_plan.specs.declared.Plan.the-variants.{Refuse, Go}
-use Rattle.law_calls.specs.Promise.{planFor}
-use Rattle.law_steps_sound.specs.Sound as Sound
+use Rattle.call_plans.specs.Calls.{planFor}
 use Rattle.law_history.specs.Trace.{Entry, Promise, Throughout}
 use Rattle.law_history.specs.Tally.{Name, tally}
 use Rattle.law_history.specs.Moves.{nameOf, Move}
@@ -31,7 +30,7 @@ pub record Inv (max : ℕ) (t : List ℕ) (h : List Entry) : Type 0 where
 
 -- every accepted call is a move
 abbrev pub Moves : Type 0
-Moves = (e : Entry) → Promise e → Sound.Fits (e .lent) → (step : Step) → planFor (e .call) (e .lent) ≡ Go step → Move e
+Moves = (e : Entry) → Promise e → (step : Step) → planFor (e .call) (e .lent) ≡ Go step → Move e
 
 -- a table and a store that fit each other
 pub record Sizes (t s : List ℕ) : Type 0 where

@@ -28,7 +28,7 @@ use Rattle.step_outcome.proofs.Chosen.{none-sent}
 use Rattle.step_outcome.proofs.Carried.{sends-still}
 use Rattle.law_steps_sound.specs.Sound.{Fits, Sound}
 use Rattle.law_counting.specs.Counting.{Counts, none, plus, ofSend, ofIndication}
-use Rattle.law_calls.specs.Promise.{Call}
+use Rattle.call_plans.specs.Calls.{Call}
 use Rattle.law_history.specs.Trace.{Entry}
 use Rattle.law_history.specs.Tally.{Name, isNamed, ofShown, ofSent, peerOf, adds}
 use Rattle.law_history.specs.Moves.{turnAdds}

@@ -7,7 +7,7 @@ use Rattle.step_commit.specs.declared.Change.the-variants.{Nothing, Put, Clear}
 use Rattle.step_plan.specs.declared.Step.{Step}
 use Rattle.step_outcome.specs.Carry.{Lent, tableThen, carriedOut}
 use Rattle.law_steps_sound.specs.Sound.{Fits, Sound}
-use Rattle.law_calls.specs.Promise.{Call}
+use Rattle.call_plans.specs.Calls.{Call}
 use Rattle.law_history.specs.Moves.{before, after, SameRecords, OthersSame}
 use Rattle.law_one_turn.proofs.Counted.{entryOf}
 use Rattle.law_one_turn.proofs.Records.{is-put, is-free, others-same, all-same, same-count}

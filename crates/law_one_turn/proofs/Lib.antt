@@ -7,11 +7,10 @@ pub mod Records
 pub mod Openings
 pub mod Left
 pub mod Turned
+pub mod Lived
 pub mod Opened
 pub mod Arrivals
 pub mod Quiet
 pub mod Requests
-pub mod Primitives
 pub mod Receives
-pub mod Timers
 pub mod Moves

@@ -34,7 +34,7 @@ use Rattle.step_outcome.specs.Carry.{Lent}
 use Rattle.law_steps_sound.specs.Sound.{Fits, GivenOk, Sound}
 use Rattle.law_plans_sound.proofs.Openings.{openedRole, OpenedAs, opened-as}
 use Rattle.law_counting.specs.Counting.{none, requested}
-use Rattle.law_calls.specs.Promise.{Call}
+use Rattle.call_plans.specs.Calls.{Call}
 use Rattle.law_history.specs.Trace.{Entry}
 use Rattle.law_history.specs.Tally.{Name, isNamed, lives, acceptsBy, toldOf, peerOf, adds, opens}
 use Rattle.law_history.specs.Moves.{nameOf, turnAdds, before, after, SameRecords, Silent, Opened, Once}

@@ -23,7 +23,7 @@ use Rattle.step_opening.specs.Opens.{openedTurn, openingStep}
 use Rattle.step_outcome.specs.Carry.{Lent, octetsOut, sentThen, carriedOut}
 use Rattle.law_steps_sound.specs.Sound.{Fits, Sound}
 use Rattle.law_counting.specs.Counting.{Counts, none, plus, ofSend}
-use Rattle.law_calls.specs.Promise.{Call}
+use Rattle.call_plans.specs.Calls.{Call}
 use Rattle.law_history.specs.Tally.{Name, isNamed, ofSent, ofShown, acceptsBy, toldOf, peerOf, adds}
 use Rattle.law_history.specs.Moves.{SameRecords, Quiet}
 use Rattle.law_one_turn.proofs.Sent.{pick-none, no-octets}

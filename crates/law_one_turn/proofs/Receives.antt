@@ -1,4 +1,4 @@
--- An accepted PDU is ignored, or its record's turn, or opens a responder's record. Assumes nothing.
+-- A PDU without a live record opens a responder's record, or is quiet. Assumes nothing.
 use Prim.Native.Nat.{ℕ, _≤_, _<_}
 use native.Mathlib.Omega.{arith}
 use mathlib.Core.Path.{_≡_, refl, sym, _∙_}
@@ -16,31 +16,30 @@ use Rattle.law_places.proofs.Places.{free-place}
 use Rattle.row_events.specs.declared.Opening.{Opening}
 use Rattle.row_columns.specs.declared.Next.the-variants.{Ends}
 use Rattle.row_entries.specs.Acts.{openingAct}
-use Rattle.step_arrivals.specs.Arrivals.{tidOf, nameOf, eventOf}
+use Rattle.step_arrivals.specs.Arrivals.{tidOf, nameOf}
 use Rattle.step_commit.specs.declared.Header.the-variants.{Kept}
-use Rattle.step_plan.specs.Steps.{idleStep}
+use Rattle.step_plan.specs.Steps as Steps
 use Rattle.step_plan.specs.declared.Holder.{Holder}
 use Rattle.step_plan.specs.declared.Step.{Step}
-use Rattle.step_plan.specs.declared.Plan.the-variants.{Go}
 use Rattle.step_opening.specs.Opens.{placeFor, openedTurn, openingStep}
-use Rattle.call_receive.specs.Receives.{wishOf, takenGiven, takenCall, takenStep, arriverOf, openedGiven, openedCall, openedStep, arrivalOpening, unmatchedStep, receiveStep, receivePlan}
-use Rattle.call_receive.proofs.Accepted.{Accepted, receive-accepted}
+use Rattle.call_receive.specs.Receives.{wishOf, arriverOf, openedGiven, openedCall, openedStep, arrivalOpening, unmatchedStep}
+use Rattle.call_receive.proofs.Accepted.{Accepted}
 use Rattle.call_receive.proofs.Kept.{kept-small}
-use Rattle.call_receive.proofs.Ways.{Taken, Unmatched, ways, Opens, leaves-or-opens}
-use Rattle.step_outcome.specs.Carry.{Lent}
+use Rattle.call_receive.proofs.Ways.{Unmatched, Opens, leaves-or-opens}
+use Rattle.step_outcome.specs.Carry.{Lent, carriedOut}
 use Rattle.law_steps_sound.specs.Sound.{Fits, GivenOk, Sound}
 use Rattle.law_plans_sound.proofs.Receives.{ends-free, same-role}
-use Rattle.law_calls.specs.Promise.{Call}
+use Rattle.call_plans.specs.Calls.{Call}
 use Rattle.law_history.specs.Trace.{Entry}
-use Rattle.law_history.specs.Moves.{Quiet, Turned, Opened}
+use Rattle.law_history.specs.Tally.{peerOf}
+use Rattle.law_history.specs.Moves.{Quiet, Opened}
 use Rattle.law_one_turn.proofs.Names.{name, none-lives}
 use Rattle.law_one_turn.proofs.Shown.{class-shown}
 use Rattle.law_one_turn.proofs.Counted.{entryOf}
 use Rattle.law_one_turn.proofs.Openings.{is-opened}
-use Rattle.law_one_turn.proofs.Turned.{turned}
 use Rattle.law_one_turn.proofs.Opened.{OpensFor, lives-then, opened}
 use Rattle.law_one_turn.proofs.Arrivals.{CountsNone, OpensRecord, arrival}
-use Rattle.law_one_turn.proofs.Quiet.{idle, ended}
+use Rattle.law_one_turn.proofs.Quiet.{ended}
 
 module _ (l : Lent) (time peer : ℕ) (f : Fits l) (step : Step) (a : Accepted (l .table) (length (l .store)) (length (l .output)) time peer (l .given) step) where
   abbrev call : Call
@@ -52,13 +51,6 @@ module _ (l : Lent) (time peer : ℕ) (f : Fits l) (step : Step) (a : Accepted (
   abbrev p : Pdu
   p = pduOf (l .given)
 
-  taken-turned : (k : Taken t time peer (l .given)) → Sound l (takenStep t (k .place) time p) → Turned (entryOf call l (takenStep t (k .place) time p))
-  unfolding takenStep takenGiven
-  taken-turned k ok =
-      turned call l (k .place) (eventOf (p .kind)) (takenGiven time p) (takenCall p) f (k .live)
-      (record { time = a .enters .bounded; len = omega arith; exit-len = omega arith })
-      ok (sym (k .called .peer-is)) (λ n. refl)
-
   module _ (u : Unmatched t time peer (l .given)) where
     abbrev opening : Opening
     opening = arrivalOpening t peer (u .tid) (l .given) p
@@ -69,13 +61,18 @@ module _ (l : Lent) (time peer : ℕ) (f : Fits l) (step : Step) (a : Accepted (
     abbrev itsStep : Step
     itsStep = openingStep t opening holder (openedGiven time p) Kept (openedCall p)
 
+    -- the answer tells nothing
+    its-peer : peerOf call (carriedOut l itsStep .answer) ≡ peer
+    unfolding carriedOut openingStep Steps.stepOf Steps.toldOf openedCall
+    its-peer = refl
+
     its-given : GivenOk (openedGiven time p)
     unfolding openedGiven
     its-given = record { time = a .enters .bounded; len = kept-small p; exit-len = omega arith }
 
     nothing-opened : Sound l itsStep → CountsNone (holder .class) opening → Quiet (entryOf call l itsStep)
     unfolding arriverOf
-    nothing-opened ok q = ended call l opening holder (openedGiven time p) Kept (openedCall p) q f ok (u .bound) refl (λ n. refl)
+    nothing-opened ok q = ended call l opening holder (openedGiven time p) Kept (openedCall p) q f ok (u .bound) its-peer (λ n. refl)
 
     record-opened : Sound l itsStep → OpensRecord (holder .class) opening → (openingAct opening .next ≡ Ends) ⊎ Opens t (l .given) → Opened (entryOf call l itsStep)
     unfolding arriverOf openedTurn
@@ -89,7 +86,7 @@ module _ (l : Lent) (time peer : ℕ) (f : Fits l) (step : Step) (a : Accepted (
           sound = ok;
           tid = u .bound;
           role = o .role ∙ sym role;
-          peer = refl;
+          peer = its-peer;
           first = class-shown _ (o .some) (openedTurn t opening holder (openedGiven time p) .first);
           second = class-shown _ (o .some) (openedTurn t opening holder (openedGiven time p) .second);
           unused = u .none;
@@ -99,22 +96,10 @@ module _ (l : Lent) (time peer : ℕ) (f : Fits l) (step : Step) (a : Accepted (
         (is-opened (entryOf call l itsStep) (name (u .role) peer (u .tid)) role (none-lives t (name (u .role) peer (u .tid)) (u .none))
         (lives-then call l opening holder (openedGiven time p) Kept (openedCall p) k live inside))
 
-    unmatched-move : Sound l (unmatchedStep t (u .role) peer (u .tid) time (l .given) p) → let e : Entry = entryOf call l (unmatchedStep t (u .role) peer (u .tid) time (l .given) p) in Quiet e ⊎ (Turned e ⊎ Opened e)
+    pub unmatched-move : Sound l (unmatchedStep t (u .role) peer (u .tid) time (l .given) p) → let e : Entry = entryOf call l (unmatchedStep t (u .role) peer (u .tid) time (l .given) p) in Quiet e ⊎ Opened e
     unfolding unmatchedStep openedStep arriverOf
     unmatched-move ok = go (arrival t peer (u .tid) (l .given) p)
       where
-        go : CountsNone (wishOf (p .kind) .class) opening ⊎ OpensRecord (wishOf (p .kind) .class) opening → Quiet (entryOf call l itsStep) ⊎ (Turned (entryOf call l itsStep) ⊎ Opened (entryOf call l itsStep))
+        go : CountsNone (wishOf (p .kind) .class) opening ⊎ OpensRecord (wishOf (p .kind) .class) opening → Quiet (entryOf call l itsStep) ⊎ Opened (entryOf call l itsStep)
         go (inl q) = inl (nothing-opened ok q)
-        go (inr o) = inr (inr (record-opened ok o (leaves-or-opens t peer (u .tid) (l .given) p)))
-
-  its-move : (receiveStep t time peer (l .given) ≡ idleStep time) ⊎ (Taken t time peer (l .given) ⊎ Unmatched t time peer (l .given)) → Sound l (receiveStep t time peer (l .given))
-      → let e : Entry = entryOf call l (receiveStep t time peer (l .given)) in Quiet e ⊎ (Turned e ⊎ Opened e)
-  its-move (inl e) ok = rw e (inl (idle call l time f (rw e at ok) (λ n. refl)))
-  its-move (inr (inl k)) ok = rw (k .step-is) (inr (inl (taken-turned k (rw (k .step-is) at ok))))
-  its-move (inr (inr u)) ok = rw (u .step-is) (unmatched-move u (rw (u .step-is) at ok))
-
-pub receive-move : (l : Lent) (time peer : ℕ) → Fits l → (step : Step) → receivePlan (l .table) (length (l .store)) (length (l .output)) time peer (l .given) ≡ Go step → Sound l step
-    → let e : Entry = entryOf (Call.Receive time peer) l step in Quiet e ⊎ (Turned e ⊎ Opened e)
-receive-move l time peer f step e ok =
-    let a : Accepted (l .table) (length (l .store)) (length (l .output)) time peer (l .given) step = receive-accepted (l .table) (length (l .store)) (length (l .output)) time peer (l .given) step e in
-    rw (a .step-is) (its-move l time peer f step a (ways (l .table) (f .formed) time peer (l .given)) (rw (a .step-is) at ok))
+        go (inr o) = inr (record-opened ok o (leaves-or-opens t peer (u .tid) (l .given) p))

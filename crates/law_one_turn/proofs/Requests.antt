@@ -28,17 +28,15 @@ use Rattle.row_turns.specs.Turns.{movedTo, recordAfter, turnOf, openingTurn}
 use Rattle.step_commit.specs.declared.Header.the-variants.{Set}
 use Rattle.step_plan.specs.Steps as Steps
 use Rattle.step_plan.specs.declared.Step.{Step}
-use Rattle.step_plan.specs.declared.Plan.the-variants.{Go}
 use Rattle.step_opening.specs.Opens.{openedTurn, openingStep}
-use Rattle.call_request.specs.Requests.{requester, requestGiven, requestCall, requestStep, requestPlan}
+use Rattle.call_request.specs.Requests.{requester, requestGiven, requestCall, requestStep}
 use Rattle.call_request.specs.declared.Request.{Request}
-use Rattle.call_request.proofs.Accepted.{placeOf, Admitted, Accepted, request-accepted, peer-octet}
+use Rattle.call_request.proofs.Accepted.{placeOf, Admitted, Accepted, peer-octet}
 use Rattle.step_outcome.specs.Carry.{Lent, carriedOut}
 use Rattle.law_steps_sound.specs.Sound.{Fits, GivenOk, Sound}
 use Rattle.law_plans_sound.proofs.Openings.{openedRole}
-use Rattle.call_engine.specs.Calls.{asRequest}
-use Rattle.law_calls.specs.Promise.{Call}
-use Rattle.law_history.specs.Tally.{Name, isNamed, acceptsBy, toldOf, opens}
+use Rattle.call_plans.specs.Calls.{Call, asRequest}
+use Rattle.law_history.specs.Tally.{Name, isNamed, acceptsBy, toldOf, peerOf, opens}
 use Rattle.law_history.specs.Moves.{Opened, Once}
 use Rattle.law_one_turn.proofs.Names.{name, named-self, not-named}
 use Rattle.law_one_turn.proofs.Counted.{entryOf}
@@ -74,6 +72,10 @@ module _ (l : Lent) (time peer class : ℕ) (userAck : Bool) (f : Fits l) (a : A
   unfolding carriedOut openingStep Steps.stepOf Steps.toldOf requestCall requester
   asked o n = ap (λ (p : ℕ). isNamed n Initiator p (genTidOf t)) (sym own-peer)
 
+  its-peer : (o : Opening) → peerOf call (carriedOut l (stepWith o) .answer) ≡ peer % peers
+  unfolding carriedOut openingStep Steps.stepOf Steps.toldOf requestCall
+  its-peer o = sym own-peer
+
   no-other : NoneOf (Called Initiator (peer % peers) (genTidOf t)) t (count t)
   no-other m h c = a .tid-unused m (record { inside = h; live = live-number (recordAt t m .state) (c .live); initiator = c .role-is; tid = c .tid-is })
 
@@ -84,7 +86,7 @@ module _ (l : Lent) (time peer class : ℕ) (userAck : Bool) (f : Fits l) (a : A
     sound = ok;
     tid = f .formed .header .gen-tid;
     role = k .role;
-    peer = sym own-peer;
+    peer = its-peer o;
     first = rw (k .first) tt;
     second = rw (k .second) tt;
     unused = no-other;
@@ -133,10 +135,7 @@ module _ (l : Lent) (time peer class : ℕ) (userAck : Bool) (f : Fits l) (a : A
       go false true e ok = inl (requested1 ok inside (not-zero e free))
       go false false e ok = inl (requested2 ok inside (not-zero e free))
 
-pub request-move : (l : Lent) (time peer class : ℕ) (userAck : Bool) → Fits l → (step : Step)
-    → requestPlan (l .table) (length (l .store)) (length (l .output)) (asRequest time peer class userAck (length (l .given))) ≡ Go step → Sound l step
-    → Opened (entryOf (Call.Request time peer class userAck) l step) ⊎ Once (entryOf (Call.Request time peer class userAck) l step)
-request-move l time peer class userAck f step e ok =
-    let q : Request = asRequest time peer class userAck (length (l .given)) in
-    let a : Accepted (l .table) (length (l .store)) (length (l .output)) q step = request-accepted (l .table) (length (l .store)) (length (l .output)) q step e in
+pub request-move : (l : Lent) (time peer class : ℕ) (userAck : Bool) → Fits l → (step : Step) → Accepted (l .table) (length (l .store)) (length (l .output)) (asRequest time peer class userAck (length (l .given))) step
+    → Sound l step → Opened (entryOf (Call.Request time peer class userAck) l step) ⊎ Once (entryOf (Call.Request time peer class userAck) l step)
+request-move l time peer class userAck f step a ok =
     rw (a .step-is) (its-move l time peer class userAck f (a .admits) (placeOf (l .table)) (a .inside) (a .place-free) (rw (a .step-is) at ok))

@@ -28,7 +28,7 @@ use Rattle.step_live.specs.Turning.{rowAt, holderOf, liveTurn, liveStep}
 use Rattle.step_outcome.specs.Carry.{Lent}
 use Rattle.law_steps_sound.specs.Sound.{Fits, GivenOk, Sound}
 use Rattle.law_counting.specs.Counting.{none}
-use Rattle.law_calls.specs.Promise.{Call}
+use Rattle.call_plans.specs.Calls.{Call}
 use Rattle.law_history.specs.Trace.{Entry}
 use Rattle.law_history.specs.Tally.{Name, isNamed, lives, acceptsBy, toldOf, peerOf, adds}
 use Rattle.law_history.specs.Moves.{nameOf, turnAdds, after, Silent, Turned}

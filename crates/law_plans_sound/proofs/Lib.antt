@@ -1,6 +1,5 @@
 pub mod Outcome
 pub mod Openings
 pub mod Requests
-pub mod Timers
-pub mod Primitives
 pub mod Receives
+pub mod CallSound

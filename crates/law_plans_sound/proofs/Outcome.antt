@@ -1,6 +1,6 @@
 -- What any sound plan leaves: a refusal nothing else, a step a well-formed table and all but what it names. Assumes nothing.
 use Prim.Native.Nat.{ℕ, _*_}
-use mathlib.Core.Path.{_≡_, refl}
+use mathlib.Core.Path.{_≡_, refl, ap, _∙_}
 use mathlib.Core.List.{List}
 use mathlib.Core.Bool.{Bool, true, false}
 use mathlib.Core.Logic.{inl, inr}
@@ -44,11 +44,15 @@ module _ (l : Lent) (step : Step) (f : Fits l) (ok : Sound l step) where
         room = rw o (f .room);
       }
 
-  store-kept : (cell : Bool) → CellFits cell (step .changes .place) (step .message) (length (l .store)) (length (l .given)) → (k : ℕ) → OutsideMessage step k
+  not-written : (cell : Bool) → cell ≡ false → cellWritten (l .store) cell (step .changes .place) (l .given) (step .message) ≡ l .store
+  not-written cell e = rw e refl
+
+  store-kept : (cell : Bool) → cell ≡ step .cell → CellFits cell (step .changes .place) (step .message) (length (l .store)) (length (l .given)) → (k : ℕ) → OutsideMessage step k
       → getD (cellWritten (l .store) cell (step .changes .place) (l .given) (step .message)) k 0 ≡ getD (l .store) k 0
-  store-kept false fits k out = refl
-  store-kept true fits k (inl h) = getD-before (part (l .given) (step .message .start) (step .message .len)) (l .store) (step .changes .place * cellSize) k h
-  store-kept true fits k (inr h) =
+  store-kept cell e fits k (inl none) = ap (λ (s : List ℕ). getD s k 0) (not-written cell (e ∙ none))
+  store-kept false e fits k (inr out) = refl
+  store-kept true e fits k (inr (inl h)) = getD-before (part (l .given) (step .message .start) (step .message .len)) (l .store) (step .changes .place * cellSize) k h
+  store-kept true e fits k (inr (inr h)) =
       let n : length (part (l .given) (step .message .start) (step .message .len)) ≡ step .message .len = length-part (l .given) (step .message .start) (step .message .len) (fits .1) in
       getD-after (part (l .given) (step .message .start) (step .message .len)) (l .store) (step .changes .place * cellSize) k (rw n h)
 
@@ -56,7 +60,7 @@ module _ (l : Lent) (step : Step) (f : Fits l) (ok : Sound l step) where
   unfolding carriedOut tableThen storeThen
   step-keeps = record {
     table = commit-frames (l .table) (step .changes) (l .exit) (f .formed) (ok .allowed);
-    store = λ k out. store-kept (step .cell) (ok .ready .cell-fits) k out;
+    store = λ k out. store-kept (step .cell) refl (ok .ready .cell-fits) k out;
     output = λ k h. output-after l step k h;
   }
 

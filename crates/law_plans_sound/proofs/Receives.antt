@@ -135,13 +135,6 @@ module _ (l : Lent) (time peer : ℕ) (exit : length (l .exit) ≤ exitBound) (s
   abbrev p : Pdu
   p = pduOf (l .given)
 
-  taken-sound : (place : ℕ) → LiveAt t place → Sound l (takenStep t place time p)
-  unfolding takenStep takenGiven takenCall noPart
-  taken-sound place lives =
-      live-sound l place (eventOf (p .kind)) (takenGiven time p) (takenCall p) (a .enters .fitting) lives
-      (record { time = a .enters .bounded; len = omega arith; exit-len = omega arith })
-      (record { message-inside = omega arith; message-fits = omega arith; exit-fits = exit })
-
   module _ (u : Unmatched t time peer (l .given)) where
     abbrev opening : Opening
     opening = arrivalOpening t peer (u .tid) (l .given) p
@@ -170,7 +163,7 @@ module _ (l : Lent) (time peer : ℕ) (exit : length (l .exit) ≤ exitBound) (s
           tid-is = sym (same .tid) ∙ o .tid;
         })
 
-    unmatched-sound : Sound l (unmatchedStep t (u .role) peer (u .tid) time (l .given) p)
+    pub unmatched-sound : Sound l (unmatchedStep t (u .role) peer (u .tid) time (l .given) p)
     unfolding unmatchedStep openedStep openedGiven openedCall arriverOf SetOk
     unmatched-sound =
         opening-sound l opening holder (openedGiven time p) Kept (openedCall p) (a .enters .fitting)
@@ -180,18 +173,3 @@ module _ (l : Lent) (time peer : ℕ) (exit : length (l .exit) ≤ exitBound) (s
         (free-place t (a .enters .fitting .formed)) (a .known) (u .bound) (omega arith)
         (arriving _ opening is-arrival .class-fits)
         (λ live. unused live (leaves-or-opens t peer (u .tid) (l .given) p))
-
-  step-sound : (receiveStep t time peer (l .given) ≡ idleStep time) ⊎ (Taken t time peer (l .given) ⊎ Unmatched t time peer (l .given)) → Sound l (receiveStep t time peer (l .given))
-  step-sound (inl e) = rw e (idle-sound l time (a .enters .fitting) (a .enters .bounded) exit)
-  step-sound (inr (inl k)) = rw (k .step-is) (taken-sound (k .place) (k .live))
-  step-sound (inr (inr u)) = rw (u .step-is) (unmatched-sound u)
-
-pub receive-sound : (l : Lent) (time peer : ℕ) → length (l .exit) ≤ exitBound → PlanSound l (receivePlan (l .table) (length (l .store)) (length (l .output)) time peer (l .given))
-unfolding PlanSound
-receive-sound l time peer exit = go (receivePlan (l .table) (length (l .store)) (length (l .output)) time peer (l .given)) refl
-  where
-    go : (p : Plan) → receivePlan (l .table) (length (l .store)) (length (l .output)) time peer (l .given) ≡ p → PlanSound l p
-    go (Refuse r) e = tt
-    go (Go step) e =
-        let k : Accepted (l .table) (length (l .store)) (length (l .output)) time peer (l .given) step = receive-accepted (l .table) (length (l .store)) (length (l .output)) time peer (l .given) step e in
-        rw (k .step-is) (step-sound l time peer exit step k (ways (l .table) (k .enters .fitting .formed) time peer (l .given)))

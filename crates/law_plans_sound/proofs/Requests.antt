@@ -58,9 +58,9 @@ module _ (l : Lent) (q : Request) (given : q .len ≡ length (l .given)) (exit :
       let o = opened-as (requestedOf (q .class % 256)) (newRecord (q .peer % 256) (genTidOf (l .table)) (q .«user_ack»)) (requestGiven q) (settingsOf (l .table)) (rowsOf (l .table)) h in
       λ j k d live same. name-unused (l .table) _ _ q a opened (o .role ∙ requested-role (q .class % 256)) (o .tid) j k live same
 
-  step-sound : Sound l (requestStep (l .table) place q)
+  pub request-sound : Sound l (requestStep (l .table) place q)
   unfolding requestStep requester requestGiven requestCall
-  step-sound =
+  request-sound =
       opening-sound l (requestedOf (q .class % 256)) (requester (l .table) place q) (requestGiven q) (Set (nextTid (genTidOf (l .table)))) (requestCall q)
       (a .enters .fitting)
       (record { time = a .enters .bounded; len = a .data-fits; exit-len = omega arith })
@@ -69,13 +69,3 @@ module _ (l : Lent) (q : Request) (given : q .len ≡ length (l .given)) (exit :
       inside (omega arith) (a .enters .fitting .formed .header .gen-tid) (omega arith)
       (class-fits (openingAct (requestedOf (q .class % 256)) .send) (q .class % 256) (omega (arith, a .class-known)))
       unused
-
-pub request-sound : (l : Lent) (q : Request) → q .len ≡ length (l .given) → length (l .exit) ≤ exitBound → PlanSound l (requestPlan (l .table) (length (l .store)) (length (l .output)) q)
-unfolding PlanSound
-request-sound l q given exit = go (requestPlan (l .table) (length (l .store)) (length (l .output)) q) refl
-  where
-    go : (p : Plan) → requestPlan (l .table) (length (l .store)) (length (l .output)) q ≡ p → PlanSound l p
-    go (Refuse r) e = tt
-    go (Go step) e =
-        let k : Accepted (l .table) (length (l .store)) (length (l .output)) q step = request-accepted (l .table) (length (l .store)) (length (l .output)) q step e in
-        rw (k .step-is) (step-sound l q given exit (k .admits) (placeOf (l .table)) (k .inside))

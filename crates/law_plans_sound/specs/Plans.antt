@@ -1,6 +1,7 @@
 -- What holds of a plan, and of what a call leaves (01, "Numbers given back"; demand 3: "A call changes no record but the one it names, opens or fires").
 use Prim.Native.Nat.{ℕ, _+_, _*_, _≤_, _<_}
 use mathlib.Core.Path.{_≡_}
+use mathlib.Core.Bool.{false}
 use mathlib.Core.Logic.{_⊎_}
 use lib.ListN.{length, getD}
 use Rattle.base_layout.specs.Layout.{cellSize}
@@ -23,9 +24,9 @@ pub record Untouched (l : Lent) (d : Done) : Type 0 where
   pub store : d .store ≡ l .store
   pub output : d .output ≡ l .output
 
--- an octet of the store lies outside the message's place in the cell
+-- an octet of the store lies outside the message's place in the cell; where no cell is written every octet does
 abbrev pub OutsideMessage : Step → ℕ → Type 0
-OutsideMessage step k = (k < step .changes .place * cellSize) ⊎ (step .changes .place * cellSize + step .message .len ≤ k)
+OutsideMessage step k = (step .cell ≡ false) ⊎ ((k < step .changes .place * cellSize) ⊎ (step .changes .place * cellSize + step .message .len ≤ k))
 
 -- what an accepted call leaves as it was: every other record, the settings, the other peers' cached TIDs; the store but for the message; the output past the PDU
 pub record Kept (l : Lent) (d : Done) (step : Step) : Type 0 where

@@ -2,11 +2,10 @@
 use Prim.Native.Nat.{ℕ}
 use mathlib.Core.List.{List}
 use lib.ListN.{length}
-use lib.Dec.{ltb}
 use Rattle.base_numbers.specs.Numbers.{numberOf}
 use Rattle.base_numbers.specs.declared.Refusal.the-variants.{WrongSize}
 use Rattle.step_outcome.specs.Carry.{Lent, Done}
-use Rattle.call_engine.specs.Calls.{asRequest, asAnswer, asResult, asAbort, requested, primitived, received, fired}
+use Rattle.call_plans.specs.Calls.{Call, promised}
 use Rattle.c_answers.specs.Answers.{answerNumber, answerAfter}
 use Rattle.c_codec.specs.Calls.{orSize}
 
@@ -29,26 +28,6 @@ handed d words = called (answerNumber (d .answer)) (d .table) (d .store) (d .out
 unfoldable pub orSmall : Lent → List ℕ → Done → Called
 orSmall l words d = orSize 32 (length words) (called (numberOf WrongSize) (l .table) (l .store) (l .output) words) (handed d words)
 
--- wtp_request; "A flag parameter: 0 is off, any other value on"
-abbrev pub requestCalled : Lent → List ℕ → ℕ → ℕ → ℕ → ℕ → Called
-requestCalled l words time peer class userAck = orSmall l words (requested l (asRequest time peer class (ltb 0 userAck) (length (l .given))))
-
--- wtp_answer, whose octets are exit information
-abbrev pub answerCalled : Lent → List ℕ → ℕ → ℕ → ℕ → ℕ → Called
-answerCalled l words time role peer tid = orSmall l words (primitived l (asAnswer time role peer tid (length (l .exit))))
-
--- wtp_result, whose octets are data
-abbrev pub resultCalled : Lent → List ℕ → ℕ → ℕ → ℕ → ℕ → Called
-resultCalled l words time role peer tid = orSmall l words (primitived l (asResult time role peer tid (length (l .given))))
-
--- wtp_abort, with the user's reason
-abbrev pub abortCalled : Lent → List ℕ → ℕ → ℕ → ℕ → ℕ → ℕ → Called
-abortCalled l words time role peer tid reason = orSmall l words (primitived l (asAbort time role peer tid reason))
-
--- wtp_receive: the PDU is what is given
-abbrev pub receiveCalled : Lent → List ℕ → ℕ → ℕ → Called
-receiveCalled l words time peer = orSmall l words (received l time peer)
-
--- wtp_timer
-abbrev pub timerCalled : Lent → List ℕ → ℕ → Called
-timerCalled l words time = orSmall l words (fired l time)
+-- what a caller of wtp_request, wtp_answer, wtp_result, wtp_abort, wtp_receive or wtp_timer sees; in wtp_request "a flag parameter: 0 is off, any other value on"
+abbrev pub calledBy : Call → Lent → List ℕ → Called
+calledBy c l words = orSmall l words (promised c l)

@@ -6,7 +6,8 @@ ghost use lib.Dec.{ltb};
 ghost use Rattle.step_outcome.specs.Carry.{lent};
 ghost use Rattle.table_fresh.specs.Fresh.{tableBytes, freshAnswer, freshNumber, tableAfter};
 ghost use Rattle.c_codec.specs.Calls.{readNumber, fieldsAfter, writeNumber, writeOutput, writeAnswer, separateNumber, partAfter, joinNumber, joinOutput, joinAnswer};
-ghost use Rattle.wtp.specs.Engine.{called, requestCalled, answerCalled, resultCalled, abortCalled, receiveCalled, timerCalled};
+ghost use Rattle.call_plans.specs.Calls.{Call};
+ghost use Rattle.wtp.specs.Engine.{called, calledBy};
 use base_numbers::Refusal;
 
 // The bytes of a table for 1 to 48 records, else 0.
@@ -77,7 +78,7 @@ pub extern "C" fn wtp_request(
     user_ack: u64,
     user: &[u8],
 ) -> u64
-    ensures { λ r. ⌜ called r (now (table .exit)) (now (store .exit)) (now (out .exit)) (now (answer .exit)) ≡ requestCalled (lent (now (table .entry)) (now (store .entry)) (now (out .entry)) (now (user .entry)) []) (now (answer .entry)) time peer class «user_ack» ⌝ }
+    ensures { λ r. ⌜ called r (now (table .exit)) (now (store .exit)) (now (out .exit)) (now (answer .exit)) ≡ calledBy (Call.Request time peer class (ltb 0 «user_ack»)) (lent (now (table .entry)) (now (store .entry)) (now (out .entry)) (now (user .entry)) []) (now (answer .entry)) ⌝ }
 {
     if too_few(answer) {
         return base_numbers::number(Refusal::WrongSize);
@@ -99,7 +100,7 @@ pub extern "C" fn wtp_answer(
     tid: u64,
     exit: &[u8],
 ) -> u64
-    ensures { λ r. ⌜ called r (now (table .exit)) (now (store .exit)) (now (out .exit)) (now (answer .exit)) ≡ answerCalled (lent (now (table .entry)) (now (store .entry)) (now (out .entry)) [] (now (exit .entry))) (now (answer .entry)) time role peer tid ⌝ }
+    ensures { λ r. ⌜ called r (now (table .exit)) (now (store .exit)) (now (out .exit)) (now (answer .exit)) ≡ calledBy (Call.Answer time role peer tid) (lent (now (table .entry)) (now (store .entry)) (now (out .entry)) [] (now (exit .entry))) (now (answer .entry)) ⌝ }
 {
     if too_few(answer) {
         return base_numbers::number(Refusal::WrongSize);
@@ -121,7 +122,7 @@ pub extern "C" fn wtp_result(
     tid: u64,
     user: &[u8],
 ) -> u64
-    ensures { λ r. ⌜ called r (now (table .exit)) (now (store .exit)) (now (out .exit)) (now (answer .exit)) ≡ resultCalled (lent (now (table .entry)) (now (store .entry)) (now (out .entry)) (now (user .entry)) []) (now (answer .entry)) time role peer tid ⌝ }
+    ensures { λ r. ⌜ called r (now (table .exit)) (now (store .exit)) (now (out .exit)) (now (answer .exit)) ≡ calledBy (Call.Result time role peer tid) (lent (now (table .entry)) (now (store .entry)) (now (out .entry)) (now (user .entry)) []) (now (answer .entry)) ⌝ }
 {
     if too_few(answer) {
         return base_numbers::number(Refusal::WrongSize);
@@ -143,7 +144,7 @@ pub extern "C" fn wtp_abort(
     tid: u64,
     reason: u8,
 ) -> u64
-    ensures { λ r. ⌜ called r (now (table .exit)) (now (store .exit)) (now (out .exit)) (now (answer .exit)) ≡ abortCalled (lent (now (table .entry)) (now (store .entry)) (now (out .entry)) [] []) (now (answer .entry)) time role peer tid reason ⌝ }
+    ensures { λ r. ⌜ called r (now (table .exit)) (now (store .exit)) (now (out .exit)) (now (answer .exit)) ≡ calledBy (Call.Abort time role peer tid reason) (lent (now (table .entry)) (now (store .entry)) (now (out .entry)) [] []) (now (answer .entry)) ⌝ }
 {
     if too_few(answer) {
         return base_numbers::number(Refusal::WrongSize);
@@ -163,7 +164,7 @@ pub extern "C" fn wtp_receive(
     peer: u64,
     octets: &[u8],
 ) -> u64
-    ensures { λ r. ⌜ called r (now (table .exit)) (now (store .exit)) (now (out .exit)) (now (answer .exit)) ≡ receiveCalled (lent (now (table .entry)) (now (store .entry)) (now (out .entry)) (now (octets .entry)) []) (now (answer .entry)) time peer ⌝ }
+    ensures { λ r. ⌜ called r (now (table .exit)) (now (store .exit)) (now (out .exit)) (now (answer .exit)) ≡ calledBy (Call.Receive time peer) (lent (now (table .entry)) (now (store .entry)) (now (out .entry)) (now (octets .entry)) []) (now (answer .entry)) ⌝ }
 {
     if too_few(answer) {
         return base_numbers::number(Refusal::WrongSize);
@@ -181,7 +182,7 @@ pub extern "C" fn wtp_timer(
     answer: &mut [u64],
     time: u64,
 ) -> u64
-    ensures { λ r. ⌜ called r (now (table .exit)) (now (store .exit)) (now (out .exit)) (now (answer .exit)) ≡ timerCalled (lent (now (table .entry)) (now (store .entry)) (now (out .entry)) [] []) (now (answer .entry)) time ⌝ }
+    ensures { λ r. ⌜ called r (now (table .exit)) (now (store .exit)) (now (out .exit)) (now (answer .exit)) ≡ calledBy (Call.Timer time) (lent (now (table .entry)) (now (store .entry)) (now (out .entry)) [] []) (now (answer .entry)) ⌝ }
 {
     if too_few(answer) {
         return base_numbers::number(Refusal::WrongSize);

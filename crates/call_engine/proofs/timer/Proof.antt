@@ -1,17 +1,16 @@
 -- `call_engine::timer` meets its contract: its plan is sound, and is carried out. Assumes nothing.
-use native.Mathlib.Omega.{arith}
-use Rattle.law_plans_sound.proofs.Timers.{timer-sound}
-use Rattle.call_engine.specs.Calls.{fired}
+use mathlib.Core.Path.{refl}
+use Rattle.call_plans.specs.Calls.{Call}
+use Rattle.law_plans_sound.proofs.CallSound.{call-sound}
 use Rattle.call_engine.proofs.Carrying.{sound-ready}
 use borrow.Author.Needs.{needs}
 use Rattle.call_engine.proofs.timer.Statement.{statement}
 use Rattle.call_engine.proofs.timer.Tie as tie
 
 pub timer-spec : {M : Type 1} → statement M
-unfolding fired
 timer-spec =
     tie.close (tie.spec
     (λ c κs. search needs) (λ c. search needs) (λ c. search needs)
-    (λ c κs. rw (c .before .before .before .before .planned .ensures) (sound-ready _ _ (timer-sound _ _ (omega arith))))
+    (λ c κs. rw (c .before .before .before .before .planned .ensures) (sound-ready _ _ (call-sound (Call.Timer _) _ (refl, refl))))
     (λ c. search needs) (λ c. search needs) (λ c. search needs)
     (λ c. rw (← (c .before .before .before .before .before .before .before .before .before .before .before .planned .ensures)) (c .before .before .before .before .before .before .carried .ensures)))

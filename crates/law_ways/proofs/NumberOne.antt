@@ -1,4 +1,4 @@
--- Number 1: an accepted call was lent what fits, and what fits is never refused with it. Assumes nothing.
+-- Number 1 is each plan's first test and no other one's, so that what fits is never refused with it: one case a call. Assumes nothing.
 use Prim.Native.Nat.{ℕ}
 use mathlib.Core.Path.{_≡_, refl, sym, ap, _∙_}
 use mathlib.Core.Bool.{Bool, true, false}
@@ -17,25 +17,12 @@ use Rattle.step_plan.specs.declared.Step.{Step}
 use Rattle.step_plan.specs.declared.Plan.{Plan}
 use Rattle.step_plan.specs.declared.Plan.the-variants.{Refuse, Go}
 use Rattle.call_request.specs.Requests.{requestPlan}
-use Rattle.call_request.proofs.Accepted.{request-accepted}
 use Rattle.call_primitive.specs.Primitives.{primitivePlan}
-use Rattle.call_primitive.proofs.Accepted.{primitive-accepted}
 use Rattle.call_receive.specs.Receives.{receivePlan}
-use Rattle.call_receive.proofs.Accepted.{receive-accepted}
 use Rattle.call_timer.specs.Timers.{timerPlan}
-use Rattle.call_timer.proofs.Accepted.{timer-accepted}
 use Rattle.step_outcome.specs.Carry.{Lent}
 use Rattle.law_steps_sound.specs.Sound.{Fits}
-use Rattle.law_calls.specs.Promise.{Call, planFor}
-
--- a call that goes was lent what fits
-pub goes-fits : (c : Call) (l : Lent) (step : Step) → planFor c l ≡ Go step → Fits l
-goes-fits (Call.Request time peer class userAck) l step e = request-accepted (l .table) _ _ _ step e .admits .enters .fitting
-goes-fits (Call.Answer time role peer tid) l step e = primitive-accepted (l .table) _ _ _ step e .enters .fitting
-goes-fits (Call.Result time role peer tid) l step e = primitive-accepted (l .table) _ _ _ step e .enters .fitting
-goes-fits (Call.Abort time role peer tid reason) l step e = primitive-accepted (l .table) _ _ _ step e .enters .fitting
-goes-fits (Call.Receive time peer) l step e = receive-accepted (l .table) _ _ time peer (l .given) step e .enters .fitting
-goes-fits (Call.Timer time) l step e = timer-accepted (l .table) _ _ time step e .enters .fitting
+use Rattle.call_plans.specs.Calls.{Call, planFor}
 
 -- none of these tests gives number 1
 abbrev others : List Test → Bool

@@ -1,0 +1,33 @@
+-- Which live record a call concerns (demand 3: "the one it names, opens or fires"): a primitive names it, a PDU is addressed to it, the timer call fires it.
+use Prim.Native.Nat.{ℕ}
+use mathlib.Core.Path.{_≡_}
+use mathlib.Core.List.{List}
+use Rattle.table_record.specs.Record.{roleNumber, roleOf}
+use Rattle.table_record.specs.declared.Record.{Record}
+use Rattle.table_layout.specs.Table.{count, recordAt}
+use Rattle.table_finding.specs.Finding.{dueOf}
+use Rattle.table_finding.specs.declared.Found.the-variants as Found
+use Rattle.step_arrivals.specs.Arrivals.{nameOf}
+use Rattle.step_arrivals.specs.declared.Name.the-variants.{Of}
+use Rattle.step_outcome.specs.Carry.{Lent}
+use Rattle.call_plans.specs.Calls.{Call}
+
+-- a primitive gives the record's role (0 the initiator's, 1 the responder's), peer and TID
+pub record NamedBy (role peer tid : ℕ) (r : Record) : Type 0 where
+  pub role-is : roleNumber (roleOf (r .state)) ≡ role
+  pub peer-is : r .peer ≡ peer
+  pub tid-is : r .tid ≡ tid
+
+-- a PDU from the record's peer has its TID, and the role that its type and the TID's top bit say
+pub record Addressed (octets : List ℕ) (peer : ℕ) (r : Record) : Type 0 where
+  pub name-is : nameOf octets ≡ Of (roleOf (r .state)) (r .tid)
+  pub peer-is : r .peer ≡ peer
+
+-- the live record at this place is the one that the call names or fires; a request names none
+abbrev pub Concerns : Call → Lent → ℕ → Type 0
+Concerns (Call.Request time peer class userAck) l place = ⊥
+Concerns (Call.Answer time role peer tid) l place = NamedBy role peer tid (recordAt (l .table) place)
+Concerns (Call.Result time role peer tid) l place = NamedBy role peer tid (recordAt (l .table) place)
+Concerns (Call.Abort time role peer tid reason) l place = NamedBy role peer tid (recordAt (l .table) place)
+Concerns (Call.Receive time peer) l place = Addressed (l .given) peer (recordAt (l .table) place)
+Concerns (Call.Timer time) l place = dueOf (l .table) (count (l .table)) time ≡ Found.At place

@@ -1,0 +1,1 @@
+// The engine's calls as one type, with the plan of each: definitions alone.

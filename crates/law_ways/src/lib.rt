@@ -1,0 +1,1 @@
+// The four ways that an accepted call can go: laws alone.
