@@ -53,7 +53,7 @@ planFor (Call.Receive time peer) l = receivePlan (l .table) (storeSize l) (outpu
 planFor (Call.Timer time) l = timerPlan (l .table) (storeSize l) (outputSize l) time
 
 -- what it promises: its plan, carried out
-abbrev pub promised : Call → Lent → Done
+unfoldable pub promised : Call → Lent → Done
 promised c l = outcome l (planFor c l)
 
 -- a call that takes no data, or no exit information, is lent none

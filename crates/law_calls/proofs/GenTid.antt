@@ -97,4 +97,5 @@ of-plan l (Go step) leaves = step-keeps-gen-tid l step (leaves step refl)
 
 -- only a request changes GenTID
 pub call-keeps-gen-tid : (c : Call) (l : Lent) → isRequest c ≡ false → genTidOf (promised c l .table) ≡ genTidOf (l .table)
+unfolding promised
 call-keeps-gen-tid c l r = of-plan l (planFor c l) (λ step e. step-leaves c l step r (call-ways c l step e .way))

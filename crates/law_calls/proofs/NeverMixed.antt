@@ -89,6 +89,7 @@ of-plan l (Go step) apart = apart step refl
 
 -- NEVER MIXED UP: no call's answer shows both an abort and a result
 pub never-both : (c : Call) (l : Lent) → showsAbort (promised c l .answer) && showsResult (promised c l .answer) ≡ false
+unfolding promised
 never-both c l = of-plan l (planFor c l) (λ step e. step-apart c l step (call-ways c l step e .way))
 
 -- a step that shows a result shows no abort

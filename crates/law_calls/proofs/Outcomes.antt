@@ -21,15 +21,17 @@ one-outcome c l a b t u s v o w p q =
 
 -- WELL FORMED KEPT: after any call, refused or not, what fitted fits
 pub call-still-fits : (c : Call) (l : Lent) → Lends c l → Fits l → StillFits l (promised c l)
+unfolding promised
 call-still-fits c l k f = still-fits l (planFor c l) f (call-sound c l k)
 
 -- "A refusal gives only its number and changes no lent byte"
 pub call-refused : (c : Call) (l : Lent) (r : Refusal) → planFor c l ≡ Refuse r → Untouched l (promised c l)
+unfolding promised
 call-refused c l r e = rw e (refused-untouched l r)
 
 -- FRAME: an accepted call changes no record but the one at its step's place
 pub call-keeps : (c : Call) (l : Lent) (step : Step) → Lends c l → Fits l → planFor c l ≡ Go step → Kept l (promised c l) step
-unfolding outcome PlanSound
+unfolding promised outcome PlanSound
 call-keeps c l step k f e =
     let s : PlanSound l (Go step) = rw e at (call-sound c l k) in
     rw e (step-keeps l step f s)

@@ -22,7 +22,7 @@ use Rattle.step_outcome.specs.Carry.{Lent, Done, CellFits, cellWritten, tableTh
 use Rattle.law_steps_sound.specs.Sound.{Fits, Sound}
 use Rattle.law_plans_sound.specs.Plans.{PlanSound, OutsideMessage, Kept}
 use Rattle.law_plans_sound.proofs.Outcome.{step-keeps, still-fits}
-use Rattle.call_plans.specs.Calls.{planFor}
+use Rattle.call_plans.specs.Calls.{planFor, promised}
 use Rattle.law_plans_sound.proofs.CallSound.{call-sound}
 use Rattle.law_history.specs.Trace.{Entry, Promise}
 use Rattle.law_ways.proofs.Ways.{Accepted}
@@ -105,6 +105,7 @@ pub record Effect (e : Entry) (step : Step) : Type 0 where
 
 -- an entry's outcome is that of its plan
 pub done-is : (e : Entry) → Promise e → (q : Plan) → planFor (e .call) (e .lent) ≡ q → e .done ≡ outcome (e .lent) q
+unfolding promised
 done-is e p q is = p .keeps ∙ ap (outcome (e .lent)) is
 
 pub effect : (e : Entry) → Promise e → (step : Step) → planFor (e .call) (e .lent) ≡ Go step → Effect e step

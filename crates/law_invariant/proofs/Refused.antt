@@ -14,7 +14,7 @@ use Rattle.step_plan.specs.declared.Told.the-variants as Told
 use Rattle.step_plan.specs.declared.Plan.the-variants.{Refuse}
 use Rattle.step_outcome.specs.Carry.{Done, done, outcome}
 use Rattle.step_outcome.specs.declared.Answer.the-variants.{Refused}
-use Rattle.call_plans.specs.Calls.{Call, planFor, isRequest}
+use Rattle.call_plans.specs.Calls.{Call, planFor, promised, isRequest}
 use Rattle.law_history.specs.Trace.{Entry, Promise}
 use Rattle.law_history.specs.Tally.{Name, isNamed, ofType, senderRole, ofSent, peerOf, adds, lives, acceptsBy, opensFor, opens}
 use Rattle.law_history.specs.Moves.{Quiet}
@@ -63,7 +63,7 @@ module _ (e : Entry) (r : Refusal) (is : e .done ≡ done (Refused r) (e .lent .
 
 -- "A refusal gives only its number and changes no lent byte"
 pub refused-is : (e : Entry) → Promise e → (r : Refusal) → planFor (e .call) (e .lent) ≡ Refuse r → e .done ≡ done (Refused r) (e .lent .table) (e .lent .store) (e .lent .output)
-unfolding outcome
+unfolding promised outcome
 refused-is e p r q = p .keeps ∙ ap (outcome (e .lent)) q
 
 pub refused-quiet : (e : Entry) → Promise e → (r : Refusal) → planFor (e .call) (e .lent) ≡ Refuse r → Quiet e

@@ -4,7 +4,7 @@ use mathlib.Core.Logic.{_⊎_, inl, inr}
 use Rattle.step_plan.specs.declared.Step.{Step}
 use Rattle.step_plan.specs.declared.Plan.the-variants.{Go}
 use Rattle.step_outcome.specs.Carry.{Lent, Done, carriedOut, outcome}
-use Rattle.call_plans.specs.Calls.{Call, timeOf, planFor}
+use Rattle.call_plans.specs.Calls.{Call, timeOf, planFor, promised}
 use Rattle.law_steps_sound.specs.Sound.{Fits, Sound}
 use Rattle.law_ways.proofs.Ways.{Way}
 use Rattle.law_ways.proofs.CallWays.{call-ways}
@@ -35,7 +35,7 @@ of-way c l f step (inr (inr (inr u))) ok = rw (u .call-is, u .step-is) (of-unmat
 
 -- an accepted call's entry holds its step, carried out
 carried : (e : Entry) → Promise e → (step : Step) → planFor (e .call) (e .lent) ≡ Go step → e .done ≡ carriedOut (e .lent) step
-unfolding outcome
+unfolding promised outcome
 carried e p step go = p .keeps ∙ ap (outcome (e .lent)) go
 
 pub moves : (e : Entry) → Promise e → (step : Step) → planFor (e .call) (e .lent) ≡ Go step → Move e
