@@ -2,3 +2,4 @@ pub mod Acts
 pub mod Sums
 pub mod Turns
 pub mod Shows
+pub mod Aborts

@@ -1,4 +1,5 @@
 pub mod Trace
 pub mod Tally
 pub mod Moves
+pub mod Changed
 pub mod Demand

@@ -1,4 +1,4 @@
--- Every move keeps the invariant, is calm, and changes one record at most. Assumes nothing.
+-- Every move keeps the invariant, is calm, and brings an abort alone. Assumes nothing.
 use Prim.Native.Nat.{ℕ, _≤_, _<_}
 use native.Mathlib.Omega.{arith}
 use mathlib.Core.Path.{_≡_, refl, sym, ap, subst, _∙_}
@@ -20,10 +20,11 @@ use Rattle.law_rows.specs.Transaction.{FreedOrSame}
 use Rattle.law_rows.proofs.Transaction.{turn-keeps}
 use Rattle.law_counting.specs.Counting.{Counts, requested, countsIn, counted, Fits, Limits, FreedOrFits, Tallied}
 use Rattle.law_counting.proofs.Turns.{turn-fits, opening-fits}
+use Rattle.law_counting.proofs.Aborts.{Alone, turn-alone, opening-alone}
 use Rattle.law_history.specs.Trace.{Entry}
 use Rattle.law_history.specs.Tally.{Name, adds, opens, tally}
 use Rattle.law_history.specs.Moves.{nameOf, turnAdds, before, after, Silent, Quiet, Turned, openedTurn, Opened, Once, Move}
-use Rattle.law_history.specs.Demand.{brings, Calm, OneChanged}
+use Rattle.law_history.specs.Demand.{brings, Calm, AbortAlone}
 use Rattle.law_invariant.specs.Invariant.{Says, Inv}
 use Rattle.law_invariant.proofs.Counted.{silent-tally, goes-on, starts-anew}
 use Rattle.law_plans_sound.proofs.Receives.{not-free}
@@ -73,7 +74,7 @@ pub record Around (e : Entry) : Type 0 where
 pub record Stepped (max : ℕ) (e : Entry) (h : List Entry) : Type 0 where
   pub inv : Inv max (after e) (e ∷ h)
   pub calm : Calm e h
-  pub one-changed : OneChanged e h
+  pub alone : AbortAlone e h
 
 module _ (max : ℕ) (e : Entry) (h : List Entry) (v : Inv max (before e) h) (a : Around e) where
   abbrev t : List ℕ
@@ -90,6 +91,12 @@ module _ (max : ℕ) (e : Entry) (h : List Entry) (v : Inv max (before e) h) (a 
 
   silent-calm : (n : Name) → Silent e n → CalmAt n
   silent-calm n s shut b = absurd (silent-brings n s b)
+
+  abbrev AloneAt : Name → Type 0
+  AloneAt n = Alone (adds e n)
+
+  silent-alone : (n : Name) → Silent e n → AloneAt n
+  silent-alone n s some = absurd (omega (arith, rw (s .adds-none) at some))
 
   -- what holds of the call's own name and of every silent one holds of all
   by-name : (P : Name → Type 0) (own : Name) → ((n : Name) → (n ≡ own → ⊥) → Silent e n) → P own → ((n : Name) → Silent e n → P n) → (n : Name) → P n
@@ -120,7 +127,7 @@ module _ (max : ℕ) (e : Entry) (h : List Entry) (v : Inv max (before e) h) (a 
   quiet-keeps q = record {
     inv = next-inv (λ i inside live. still-says i inside (q .same i) (λ l. q .silent (nameOf (recordAt t i))) live) (λ n. silent-limits n (q .silent n));
     calm = λ n shut b. silent-calm n (q .silent n) shut b;
-    one-changed = inl (q .same);
+    alone = λ n. silent-alone n (q .silent n);
   }
 
   pub once-keeps : Once e → Stepped max e h
@@ -130,7 +137,7 @@ module _ (max : ℕ) (e : Entry) (h : List Entry) (v : Inv max (before e) h) (a 
         (λ i inside live. still-says i inside (m .same i) (λ l. m .others (nameOf (recordAt t i)) (unused-name t (m .name) (m .unused) i inside l)) live)
         (by-name (λ n. Limits max (tally (e ∷ h) n)) (m .name) (m .others) (rw (starts-anew e h (m .name) (requested 1 0 0) (m .opened) (m .own)) (once-limits max)) silent-limits);
     calm = by-name CalmAt (m .name) (m .others) (λ shut b. true-false (sym (m .opened) ∙ shut)) silent-calm;
-    one-changed = inl (m .same);
+    alone = by-name AloneAt (m .name) (m .others) (rw (m .own) (λ some. absurd (omega (arith, some)))) silent-alone;
   }
 
   module _ (m : Turned e) where
@@ -150,6 +157,10 @@ module _ (max : ℕ) (e : Entry) (h : List Entry) (v : Inv max (before e) h) (a 
     kept-or-freed : FreedOrSame was (turn .after)
     unfolding liveTurn rowAt
     kept-or-freed = turn-keeps (m .given) (settingsOf t) (rowsOf t) was (m .event)
+
+    own-alone : Alone (turnAdds turn)
+    unfolding liveTurn rowAt
+    own-alone = turn-alone was (m .given) (settingsOf t) (rowsOf t) (rowAt t (m .place) (m .event))
 
     tally-is : tally (e ∷ h) (nameOf was) ≡ counted (tally h (nameOf was)) turn
     tally-is = goes-on e h (nameOf was) (turnAdds turn) (m .not-opened) (m .own)
@@ -172,7 +183,7 @@ module _ (max : ℕ) (e : Entry) (h : List Entry) (v : Inv max (before e) h) (a 
     turned-keeps = record {
       inv = next-inv all-say (by-name (λ n. Limits max (tally (e ∷ h) n)) (nameOf was) (m .others) (rw tally-is (tallied .limits)) silent-limits);
       calm = by-name CalmAt (nameOf was) (m .others) (λ shut b. rw (v .says (m .place) (m .inside) (m .live)) (none-aborted (was .state) (was .rcr .0) (was .«hold_on»))) silent-calm;
-      one-changed = inr (m .place, m .rest);
+      alone = by-name AloneAt (nameOf was) (m .others) (rw (m .own) own-alone) silent-alone;
     }
 
   module _ (m : Opened e) where
@@ -199,7 +210,7 @@ module _ (max : ℕ) (e : Entry) (h : List Entry) (v : Inv max (before e) h) (a 
     opened-keeps = record {
       inv = next-inv each-says (by-name (λ n. Limits max (tally (e ∷ h) n)) (m .name) (m .others) (rw new-tally (new-tallied .limits)) silent-limits);
       calm = by-name CalmAt (m .name) (m .others) (λ shut b. true-false (sym (m .opened) ∙ shut)) silent-calm;
-      one-changed = inr (m .place, m .rest);
+      alone = by-name AloneAt (m .name) (m .others) (rw (m .own) (opening-alone (newRecord (m .name .peer) (m .name .tid) (m .userAck)) (m .given) (settingsOf t) (rowsOf t) (m .opening))) silent-alone;
     }
 
   -- any move

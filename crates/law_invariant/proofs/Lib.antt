@@ -5,4 +5,3 @@ pub mod Kept
 pub mod Through
 pub mod Fresh
 pub mod Follows
-pub mod Whole

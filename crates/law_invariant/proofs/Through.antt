@@ -1,4 +1,4 @@
--- Whatever calls are made, one after another, the invariant stays, each call is calm and changes one record at most; and none is refused for a size. Assumes nothing.
+-- Whatever calls are made, one after another, the invariant stays, each call is calm and brings an abort alone; and none is refused for a size. Assumes nothing.
 use Prim.Native.Nat.{ℕ}
 use mathlib.Core.Path.{_≡_, refl, sym, ap, subst}
 use mathlib.Core.List.{List, []}
@@ -80,8 +80,8 @@ module _ (moves : Moves) (max : ℕ) where
   -- from any start that satisfies it
   pub kept-through : {t₀ s₀ t s : List ℕ} {h : List Entry} → Inv max t₀ [] → Run t₀ s₀ t s h → Held max t h
   unfolding Throughout
-  kept-through v Run.start = record { inv = v; limits = tt; calm = tt; one-changed = tt }
+  kept-through v Run.start = record { inv = v; limits = tt; calm = tt; alone = tt }
   kept-through v (Run.called {h = h} run e p tab sto) =
       let k = kept-through v run in
       let s : Stepped max e h = call-steps e h p (subst (λ (x : List ℕ). Inv max x h) (sym tab) (k .inv)) in
-      record { inv = s .inv; limits = (s .inv .limits, k .limits); calm = (s .calm, k .calm); one-changed = (s .one-changed, k .one-changed) }
+      record { inv = s .inv; limits = (s .inv .limits, k .limits); calm = (s .calm, k .calm); alone = (s .alone, k .alone) }

@@ -15,7 +15,7 @@ use Rattle.call_plans.specs.Calls.{planFor}
 use Rattle.law_history.specs.Trace.{Entry, Promise, Throughout}
 use Rattle.law_history.specs.Tally.{Name, tally}
 use Rattle.law_history.specs.Moves.{nameOf, Move}
-use Rattle.law_history.specs.Demand.{Limited, Calm, OneChanged}
+use Rattle.law_history.specs.Demand.{Limited, Calm, AbortAlone}
 
 -- the record at a place says what was counted under its name since it was opened
 abbrev pub Says : List ℕ → List Entry → ℕ → Type 0
@@ -46,4 +46,4 @@ pub record Held (max : ℕ) (t : List ℕ) (h : List Entry) : Type 0 where
   pub inv : Inv max t h
   pub limits : Throughout (Limited max) h
   pub calm : Throughout Calm h
-  pub one-changed : Throughout OneChanged h
+  pub alone : Throughout AbortAlone h

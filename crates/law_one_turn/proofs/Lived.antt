@@ -21,8 +21,8 @@ module _ (c : Call) (l : Lent) (f : Fits l) (step : Step) (k : Lived c l step) w
   -- its PDU goes to the record's peer
   its-peer : Known c l (k .place) (k .asked .tells) → peerOf c (carriedOut l its .answer) ≡ recordAt (l .table) (k .place) .peer
   unfolding carriedOut liveStep Steps.stepOf Steps.toldOf holderOf
-  its-peer (inl e) = rw e refl
-  its-peer (inr (e, p)) = rw e p
+  its-peer (inl (f, e)) = rw e refl
+  its-peer (inr (f, (e, p))) = rw e p
 
   pub lived-turned : Sound l its → Turned (entryOf c l its)
   lived-turned ok = turned c l (k .place) (k .event) (k .given) (k .asked) f (k .live) (k .given-ok) ok (its-peer (k .known)) (λ n. rw (k .no-request) refl)

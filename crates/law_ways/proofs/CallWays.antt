@@ -35,15 +35,16 @@ use Rattle.call_timer.specs.Timers.{firedGiven, firedCall, stepBy, timerStep}
 use Rattle.call_timer.proofs.Accepted as Timers
 use Rattle.step_outcome.specs.Carry.{Lent}
 use Rattle.call_plans.specs.Calls.{Call, asRequest, planFor, Lends, peerIn, isRequest}
-use Rattle.call_plans.specs.Concerns.{NamedBy, Concerns}
+use Rattle.call_plans.specs.Concerns.{NamedBy, Concerns, Allowed, Comes, fires}
 use Rattle.law_ways.proofs.Ways.{isResultEvent, Accepted}
 
 no-exit : (x : List ℕ) → x ≡ [] → length x ≤ exitBound
 no-exit x e = rw e (omega arith)
 
 -- a user's answer, result or abort
-module _ (c : Call) (l : Lent) (p : Primitive) (peer : peerIn c ≡ p .peer) (asks : isRequest c ≡ false) (none : isResultEvent (p .event) ≡ false)
-    (given : Lends c l → p .len ≡ length (l .given)) (exit : Lends c l → p .«exit_len» ≡ length (l .exit)) (names : (place : ℕ) → NamedBy (p .role) (p .peer) (p .tid) (recordAt (l .table) place) → Concerns c l place) where
+module _ (c : Call) (l : Lent) (p : Primitive) (peer : peerIn c ≡ p .peer) (asks : isRequest c ≡ false) (silent : fires c ≡ false) (none : isResultEvent (p .event) ≡ false)
+    (given : Lends c l → p .len ≡ length (l .given)) (exit : Lends c l → p .«exit_len» ≡ length (l .exit)) (names : (place : ℕ) → NamedBy (p .role) (p .peer) (p .tid) (recordAt (l .table) place) → Concerns c l place)
+    (comes : (place : ℕ) → Allowed l place (p .event) → Comes c l place (p .event) (primitiveGiven p)) where
   by-primitive : (step : Step) → primitivePlan (l .table) (length (l .store)) (length (l .output)) p ≡ Go step → Accepted c l step
   unfolding primitiveStep liveStep stepOf primitiveGiven primitiveCall
   by-primitive step e =
@@ -61,10 +62,11 @@ module _ (c : Call) (l : Lent) (p : Primitive) (peer : peerIn c ≡ p .peer) (as
           step-is = a .is-step;
           live = a .live;
           concerns = names (a .place) (record { role-is = n .role; peer-is = n .peer; tid-is = n .tid });
+          comes = comes (a .place) (a .record-ready .row);
           given-ok = record { time = a .enters .bound; len = a .record-ready .message; exit-len = a .record-ready .exit };
           lent-ok = λ k. record { message-inside = omega (arith, given k); message-fits = a .record-ready .message; exit-fits = omega (arith, exit k, a .record-ready .exit) };
           no-request = asks;
-          known = inr (refl, peer ∙ sym (n .peer));
+          known = inr (silent, (refl, peer ∙ sym (n .peer)));
           came = inr none;
         });
       }
@@ -93,10 +95,11 @@ module _ (l : Lent) (time peer : ℕ) (step : Step)
       step-is = a .step-is ∙ k .step-is;
       live = k .live;
       concerns = record { name-is = rw (k .called .role-is, k .called .tid-is) (k .names); peer-is = k .called .peer-is };
+      comes = refl;
       given-ok = record { time = a .enters .bounded; len = omega arith; exit-len = omega arith };
       lent-ok = λ x. record { message-inside = omega arith; message-fits = omega arith; exit-fits = no-exit (l .exit) x };
       no-request = refl;
-      known = inr (refl, sym (k .called .peer-is));
+      known = inr (refl, (refl, sym (k .called .peer-is)));
       came = inl record { time = time; peer = peer; call-is = refl; of-peer = k .called .peer-is; event-is = refl; asked-is = refl };
     });
   }
@@ -123,17 +126,18 @@ module _ (l : Lent) (time : ℕ) (step : Step) (a : Entered (l .table) (length (
       step-is = is;
       live = due-live (l .table) (a .fitting .formed) time i q;
       concerns = q;
+      comes = refl;
       given-ok = record { time = a .bounded; len = omega arith; exit-len = omega arith };
       lent-ok = λ k. record { message-inside = omega arith; message-fits = omega arith; exit-fits = no-exit (l .exit) (k .1) };
       no-request = refl;
-      known = inl refl;
+      known = inl (refl, refl);
       came = inr refl;
     });
   }
   by-due Found.Nothing q is = record { fits = a .fitting; small = rw is (omega arith); exit-fits = λ k. no-exit (l .exit) (k .1); way = inl record { step-is = is; bounded = a .bounded; no-request = refl } }
 
 pub call-ways : (c : Call) (l : Lent) (step : Step) → planFor c l ≡ Go step → Accepted c l step
-unfolding requestStep openingStep stepOf requestCall timerStep
+unfolding requestStep openingStep stepOf requestCall primitiveGiven timerStep
 call-ways (Call.Request time peer class userAck) l step e =
     let a = Requests.request-accepted (l .table) (length (l .store)) (length (l .output)) (asRequest time peer class userAck (length (l .given))) step e in
     record {
@@ -142,9 +146,9 @@ call-ways (Call.Request time peer class userAck) l step e =
       exit-fits = λ k. no-exit (l .exit) k;
       way = inr (inr (inl record { time = time; peer = peer; class = class; userAck = userAck; call-is = refl; accepted = a }));
     }
-call-ways (Call.Answer time role peer tid) l step e = by-primitive _ l _ refl refl refl (λ k. rw k refl) (λ k. refl) (λ place n. n) step e
-call-ways (Call.Result time role peer tid) l step e = by-primitive _ l _ refl refl refl (λ k. refl) (λ k. rw k refl) (λ place n. n) step e
-call-ways (Call.Abort time role peer tid reason) l step e = by-primitive _ l _ refl refl refl (λ k. rw (k .0) refl) (λ k. rw (k .1) refl) (λ place n. n) step e
+call-ways (Call.Answer time role peer tid) l step e = by-primitive _ l _ refl refl refl refl (λ k. rw k refl) (λ k. refl) (λ place n. n) (λ place a. (refl, a)) step e
+call-ways (Call.Result time role peer tid) l step e = by-primitive _ l _ refl refl refl refl (λ k. refl) (λ k. rw k refl) (λ place n. n) (λ place a. (refl, a)) step e
+call-ways (Call.Abort time role peer tid reason) l step e = by-primitive _ l _ refl refl refl refl (λ k. rw (k .0) refl) (λ k. rw (k .1) refl) (λ place n. n) (λ place a. (refl, (a, refl))) step e
 call-ways (Call.Receive time peer) l step e =
     let a = Receives.receive-accepted (l .table) (length (l .store)) (length (l .output)) time peer (l .given) step e in
     by-way l time peer step a (ways (l .table) (a .enters .fitting .formed) time peer (l .given))

@@ -1,7 +1,7 @@
 -- The four ways of an accepted call: it does nothing but store its time, it is the turn of a live record, a request's opening, or that of a PDU without a live record. What is proved of all calls is proved over these. Assumes nothing.
 use Prim.Native.Nat.{ℕ, _≤_}
 use mathlib.Core.Path.{_≡_}
-use mathlib.Core.Bool.{Bool, false, _||_}
+use mathlib.Core.Bool.{Bool, true, false, _||_}
 use mathlib.Core.Logic.{_⊎_}
 use lib.ListN.{length}
 use lib.Dec.{eqb}
@@ -27,7 +27,7 @@ use Rattle.call_receive.proofs.Ways.{Unmatched}
 use Rattle.step_outcome.specs.Carry.{Lent}
 use Rattle.law_steps_sound.specs.Sound.{Fits, GivenOk, LentOk}
 use Rattle.call_plans.specs.Calls.{Call, asRequest, Lends, timeOf, peerIn, isRequest}
-use Rattle.call_plans.specs.Concerns.{Concerns}
+use Rattle.call_plans.specs.Concerns.{Concerns, Comes, fires}
 
 -- a Result, TTR set
 abbrev pub isResultEvent : Event → Bool
@@ -42,9 +42,9 @@ pub record Came (c : Call) (l : Lent) (place : ℕ) (event : Event) (asked : Ask
   pub event-is : event ≡ eventOf (pduOf (l .given) .kind)
   pub asked-is : asked ≡ takenCall (pduOf (l .given))
 
--- the answer tells the record that was fired, or tells none and the call named its peer
+-- a call that fires a record tells it; any other tells none and has named the record's peer
 abbrev pub Known : Call → Lent → ℕ → Tells → Type 0
-Known c l place tells = (tells ≡ Tells.Record) ⊎ ((tells ≡ Tells.Nothing) × (peerIn c ≡ recordAt (l .table) place .peer))
+Known c l place tells = ((fires c ≡ true) × (tells ≡ Tells.Record)) ⊎ ((fires c ≡ false) × ((tells ≡ Tells.Nothing) × (peerIn c ≡ recordAt (l .table) place .peer)))
 
 -- a PDU is ignored, or none is due
 pub record Idle (c : Call) (step : Step) : Type 0 where
@@ -61,6 +61,7 @@ pub record Lived (c : Call) (l : Lent) (step : Step) : Type 0 where
   pub step-is : step ≡ liveStep (l .table) place event given asked
   pub live : LiveAt (l .table) place
   pub concerns : Concerns c l place
+  pub comes : Comes c l place event given
   pub given-ok : GivenOk given
   pub lent-ok : Lends c l → LentOk l asked
   pub no-request : isRequest c ≡ false

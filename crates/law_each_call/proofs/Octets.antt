@@ -1,0 +1,86 @@
+-- The changes of a call, octet by octet: past the header they touch the octets of the record at their place alone, in the header the clock, GenTID where it is set, and the cached TID of their peer. Assumes nothing.
+use Prim.Native.Nat.{ℕ, _+_, _*_, _≤_, _<_}
+use native.Mathlib.Omega.{arith}
+use mathlib.Core.Path.{_≡_, refl, _∙_}
+use mathlib.Core.Bool.{Bool, true, false}
+use mathlib.Core.List.{List}
+use mathlib.Core.Logic.{_⊎_, inl, inr}
+use lib.ListN.{length, getD, replicate, length-replicate}
+use Rattle.base_layout.specs.Layout.{headerSize, recordSize, genTidAt, rcrMaxAt, cachedAt, base, exitBase, peers, exitBound}
+use Rattle.base_octets.specs.Octets.{enc}
+use Rattle.base_octets.proofs.StoredAndRead.{Apart, length-enc}
+use Rattle.table_record.specs.Record.{octetsOf}
+use Rattle.table_record.proofs.Back.{length-octets}
+use Rattle.table_layout.specs.Table.{putRecord, clearRecord, putGenTid, putCached, putClock}
+use Rattle.table_layout.proofs.Apart.{octet-apart}
+use Rattle.step_commit.specs.Commit.{recordChanged, exitStored, genTidChanged, cacheChanged, tableAfter}
+use Rattle.step_commit.specs.declared.Change.{Change}
+use Rattle.step_commit.specs.declared.Change.the-variants.{Nothing, Put, Clear}
+use Rattle.step_commit.specs.declared.Header.{Header}
+use Rattle.step_commit.specs.declared.Header.the-variants.{Kept, Set}
+use Rattle.step_commit.specs.declared.Changes.{Changes}
+use Rattle.law_history.specs.Changed.{OutsideRecord, OutsideCached}
+
+module _ (k : ℕ) where
+  abbrev Same : List ℕ → List ℕ → Type 0
+  Same t u = getD u k 0 ≡ getD t k 0
+
+  clock-same : (t : List ℕ) (v : ℕ) → genTidAt ≤ k → Same t (putClock t v)
+  unfolding putClock
+  clock-same t v h = octet-apart t 0 (enc 8 v) k (inr (omega (arith, length-enc 8 v)))
+
+  cached-same : (t : List ℕ) (peer : ℕ) (c : Header) → OutsideCached peer k → Same t (cacheChanged t peer c)
+  unfolding cacheChanged putCached
+  cached-same t peer Kept o = refl
+  cached-same t peer (Set v) (inl h) = octet-apart t (cachedAt + peer * 2) (enc 2 v) k (inl (omega arith))
+  cached-same t peer (Set v) (inr h) = octet-apart t (cachedAt + peer * 2) (enc 2 v) k (inr (omega (arith, length-enc 2 v)))
+
+  gen-tid-same : (t : List ℕ) (c : Header) → (c ≡ Kept) ⊎ (rcrMaxAt ≤ k) → Same t (genTidChanged t c)
+  unfolding genTidChanged putGenTid
+  gen-tid-same t c (inl e) = rw e refl
+  gen-tid-same t Kept (inr h) = refl
+  gen-tid-same t (Set v) (inr h) = octet-apart t 8 (enc 2 v) k (inr (omega (arith, length-enc 2 v)))
+
+  -- a store within a record is apart from what lies outside it
+  off : (place start n : ℕ) → base place ≤ start → start + n ≤ base place + recordSize → OutsideRecord place k → Apart k 1 start n
+  off place start n a b (inl h) = inl (omega arith)
+  off place start n a b (inr h) = inr (omega arith)
+
+  changed-same : (t : List ℕ) (place : ℕ) (c : Change) → OutsideRecord place k → Same t (recordChanged t place c)
+  unfolding recordChanged putRecord clearRecord
+  changed-same t place Nothing o = refl
+  changed-same t place (Put r) o = octet-apart t (base place) (octetsOf r) k (off place (base place) (length (octetsOf r)) (omega arith) (omega (arith, length-octets r)) o)
+  changed-same t place Clear o =
+      octet-apart t (base place) (replicate {A = ℕ} recordSize 0) k (off place (base place) (length (replicate {A = ℕ} recordSize 0)) (omega arith) (omega (arith, length-replicate {A = ℕ} recordSize 0)) o)
+
+  exit-same : (t : List ℕ) (place : ℕ) (stored : Bool) (exit : List ℕ) → length exit ≤ exitBound → OutsideRecord place k → Same t (exitStored t place stored exit)
+  unfolding exitStored
+  exit-same t place true exit h o = octet-apart t (exitBase place) exit k (off place (exitBase place) (length exit) (omega arith) (omega (arith, h)) o)
+  exit-same t place false exit h o = refl
+
+  module _ (t : List ℕ) (c : Changes) (exit : List ℕ) (fits : length exit ≤ exitBound) (peer : c .peer < peers) where
+    -- past the header: every octet of every other record
+    pub other-octets : headerSize ≤ k → OutsideRecord (c .place) k → Same t (tableAfter t c exit)
+    unfolding tableAfter
+    other-octets past o =
+        clock-same _ (c .time) (omega arith)
+        ∙ (cached-same _ (c .peer) (c .cached) (inr (omega (arith, peer)))
+        ∙ (gen-tid-same _ (c .«gen_tid») (inr (omega arith))
+        ∙ (exit-same _ (c .place) (c .exit) exit fits o ∙ changed-same t (c .place) (c .change) o)))
+
+    -- and where no record changes every octet of all
+    pub all-octets : c .change ≡ Nothing → c .exit ≡ false → headerSize ≤ k → Same t (tableAfter t c exit)
+    unfolding tableAfter recordChanged exitStored
+    all-octets none unstored past =
+        clock-same _ (c .time) (omega arith)
+        ∙ (cached-same _ (c .peer) (c .cached) (inr (omega (arith, peer)))
+        ∙ (gen-tid-same _ (c .«gen_tid») (inr (omega arith)) ∙ rw (none, unstored) refl))
+
+    -- in the header
+    pub header-octets : genTidAt ≤ k → k < headerSize → (c .«gen_tid» ≡ Kept) ⊎ (rcrMaxAt ≤ k) → OutsideCached (c .peer) k → Same t (tableAfter t c exit)
+    unfolding tableAfter
+    header-octets past inside gen cached =
+        clock-same _ (c .time) past
+        ∙ (cached-same _ (c .peer) (c .cached) cached
+        ∙ (gen-tid-same _ (c .«gen_tid») gen
+        ∙ (exit-same _ (c .place) (c .exit) exit fits (inl (omega (arith, inside))) ∙ changed-same t (c .place) (c .change) (inl (omega (arith, inside))))))
