@@ -38,10 +38,10 @@ fn named_by(t: &[u8], role: u64, peer: u64, tid: u64) -> Found
     ensures { λ r. ⌜ r ≡ namedBy (now (t .entry)) role peer tid ⌝ }
 {
     if role == 0 {
-        return table_finding::named(t, call_refusal::records(t), Role::Initiator, peer, tid);
+        return table_finding::named(t, table_layout::records(t), Role::Initiator, peer, tid);
     }
     if role == 1 {
-        return table_finding::named(t, call_refusal::records(t), Role::Responder, peer, tid);
+        return table_finding::named(t, table_layout::records(t), Role::Responder, peer, tid);
     }
     Found::Nothing
 }

@@ -195,7 +195,7 @@ fn unmatched(t: &[u8], role: Role, peer: u8, tid: u16, time: u64, s: &[u8], p: P
     ensures { λ r. ⌜ r ≡ unmatchedStep (now (t .entry)) role peer tid time (now (s .entry)) p ⌝ }
 {
     let kind = p.kind;
-    let free = table_finding::free(t, call_refusal::records(t));
+    let free = table_finding::free(t, table_layout::records(t));
     let full = is_full(free);
     let cached = table_layout::cached_of(t, base_lists::size(peer));
     let valid = is_valid(table_tids::tid_test(cached, tid));
@@ -211,7 +211,7 @@ fn naming(t: &[u8], role: Role, peer: u8, tid: u16, time: u64, s: &[u8]) -> Step
     ensures { λ r. ⌜ r ≡ namingStep (now (t .entry)) role peer tid time (now (s .entry)) ⌝ }
 {
     let p = codec_reading::read(s);
-    match table_finding::named(t, call_refusal::records(t), role, peer as u64, tid as u64) {
+    match table_finding::named(t, table_layout::records(t), role, peer as u64, tid as u64) {
         Found::At(i) => taken(t, i, time, p),
         Found::Nothing => unmatched(t, role, peer, tid, time, s, p),
     }

@@ -3,7 +3,6 @@ ghost use mathlib.Core.Path.{_≡_};
 ghost use Prim.Native.Nat.{_≤_};
 ghost use lib.ListN.{length};
 ghost use Rattle.base_layout.specs.Layout.{headerSize};
-ghost use Rattle.table_layout.specs.Table.{count};
 ghost use Rattle.call_refusal.specs.Judging.{lateOf};
 use base_numbers::Refusal;
 
@@ -23,12 +22,4 @@ pub fn late(t: &[u8], time: u64) -> bool
     } else {
         base_layout::TIME_BOUND < time
     }
-}
-
-// How many records a table has.
-pub fn records(t: &[u8]) -> usize
-    requires { ⌜ headerSize ≤ length (now t) ⌝ }
-    ensures { λ r. ⌜ r ≡ count (now (t .entry)) ⌝ }
-{
-    (t.len() - base_layout::HEADER_SIZE) / base_layout::RECORD_SIZE
 }

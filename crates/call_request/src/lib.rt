@@ -48,7 +48,7 @@ fn judged(t: &[u8], store: usize, output: usize, q: Request) -> Judged
         return Judged::Refuse(Refusal::WrongClass);
     }
     let tid = table_layout::gen_tid_of(t);
-    if table_finding::tid_in_use(t, call_refusal::records(t), tid as u64) {
+    if table_finding::tid_in_use(t, table_layout::records(t), tid as u64) {
         return Judged::Refuse(Refusal::TidInUse);
     }
     Judged::Accept
@@ -129,6 +129,6 @@ pub fn planned(t: &[u8], store: usize, output: usize, q: Request) -> Plan
 {
     match judged(t, store, output, q) {
         Judged::Refuse(r) => Plan::Refuse(r),
-        Judged::Accept => with_place(t, table_finding::free(t, call_refusal::records(t)), q),
+        Judged::Accept => with_place(t, table_finding::free(t, table_layout::records(t)), q),
     }
 }

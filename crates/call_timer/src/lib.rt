@@ -34,7 +34,7 @@ fn step_for(t: &[u8], time: u64) -> Step
     requires { ⌜ time ≤ timeBound ⌝ }
     ensures { λ r. ⌜ r ≡ timerStep (now (t .entry)) time ⌝ }
 {
-    match table_finding::due(t, call_refusal::records(t), time) {
+    match table_finding::due(t, table_layout::records(t), time) {
         Found::At(i) => {
             let none = step_plan::no_part();
             let g = Given {
