@@ -1,9 +1,8 @@
 // What a user's answer, result or abort will do: the three primitives that name a record.
 ghost use mathlib.Core.Path.{_≡_};
 ghost use Prim.Native.Nat.{_≤_};
-ghost use mathlib.Core.Bool.{not};
 ghost use Rattle.base_layout.specs.Layout.{timeBound, exitBound, cellSize};
-ghost use Rattle.table_finding.specs.Finding.{isFound, Within};
+ghost use Rattle.table_finding.specs.Finding.{Within};
 ghost use Rattle.call_primitive.specs.Primitives.{Named, namedBy, isResponder, exitRefused, tooMuch, refusesRow, notAllowed, entryTests, foundTests, primitiveStep, foundFor, foundPlan, primitivePlan};
 ghost use Rattle.table_well_formed.specs.WellFormed.{WellFormed};
 ghost use Rattle.call_refusal.specs.Judging.{lowest};
@@ -128,15 +127,6 @@ fn judged(t: &[u8], store: usize, output: usize, p: Primitive) -> Judged
     Judged::Accept
 }
 
-fn nobody(found: Found) -> bool
-    ensures { λ r. ⌜ r ≡ not (isFound found) ⌝ }
-{
-    match found {
-        Found::At(_) => false,
-        Found::Nothing => true,
-    }
-}
-
 // The lowest of the numbers 4, 8, 9 that applies, with the named record found.
 fn judged_found(t: &[u8], found: Found, p: Primitive) -> Judged
     requires { ⌜ Within (now t) found ⌝ }
@@ -146,7 +136,7 @@ fn judged_found(t: &[u8], found: Found, p: Primitive) -> Judged
     if too_much(t, p, found) {
         return Judged::Refuse(Refusal::TooLong);
     }
-    if nobody(found) {
+    if !table_finding::is_found(found) {
         return Judged::Refuse(Refusal::NoRecord);
     }
     if not_allowed(t, found, event) {

@@ -71,10 +71,6 @@ takenStep t place time p = liveStep t place (eventOf (p .kind)) (takenGiven time
 unfoldable pub keptPart : Pdu → Part
 keptPart p = pick (ltb cellSize (p .len)) noPart (userPart p)
 
--- "no free record"
-unfoldable pub isFull : Found → Bool
-isFull free = not (isFound free)
-
 -- "Valid when 1 ≤ d ≤ 16,383"
 unfoldable pub isValid : TidTest → Bool
 isValid Valid = true
@@ -117,9 +113,9 @@ openedCall p = record { message = keptPart p; info = noPart; user = userPart p; 
 unfoldable pub openedStep : List ℕ → Opening → Holder → ℕ → Pdu → Step
 openedStep t opening h time p = openingStep t opening h (openedGiven time p) Kept (openedCall p)
 
--- the row of a PDU without a live record
+-- the row of a PDU without a live record; one of its tests is "no free record"
 unfoldable pub arrivalOpening : List ℕ → ℕ → ℕ → List ℕ → Pdu → Opening
-arrivalOpening t peer tid s p = openingOf (arrivedOf s p (isFull (freeOf t (count t))) (isValid (testOf (cachedOf t peer) tid)))
+arrivalOpening t peer tid s p = openingOf (arrivedOf s p (not (isFound (freeOf t (count t)))) (isValid (testOf (cachedOf t peer) tid)))
 
 unfoldable pub unmatchedStep : List ℕ → Role → ℕ → ℕ → ℕ → List ℕ → Pdu → Step
 unmatchedStep t role peer tid time s p =

@@ -6,7 +6,7 @@ ghost use Rattle.base_layout.specs.Layout.{timeBound, tidBound, recordsBound};
 ghost use Rattle.table_layout.specs.Table.{count, recordAt};
 ghost use Rattle.table_well_formed.specs.WellFormed.{WellFormed};
 ghost use Rattle.call_refusal.specs.Judging.{lowest};
-ghost use Rattle.call_receive.specs.Receives.{receiveTests, keptPart, takenStep, isFull, isValid, noWish, wishOf, arriverOf, openedStep, unmatchedStep, namingStep, receiveStep, receivePlan};
+ghost use Rattle.call_receive.specs.Receives.{receiveTests, keptPart, takenStep, isValid, noWish, wishOf, arriverOf, openedStep, unmatchedStep, namingStep, receiveStep, receivePlan};
 use base_numbers::Refusal;
 use call_refusal::Judged;
 use codec_pdu::Kind;
@@ -89,16 +89,6 @@ fn kept_part(p: Pdu) -> Part
     Part {
         start: p.start,
         len: p.len,
-    }
-}
-
-// Whether no record is free.
-fn is_full(free: Found) -> bool
-    ensures { λ r. ⌜ r ≡ isFull free ⌝ }
-{
-    match free {
-        Found::At(_) => false,
-        Found::Nothing => true,
     }
 }
 
@@ -196,7 +186,7 @@ fn unmatched(t: &[u8], role: Role, peer: u8, tid: u16, time: u64, s: &[u8], p: P
 {
     let kind = p.kind;
     let free = table_finding::free(t, table_layout::records(t));
-    let full = is_full(free);
+    let full = !table_finding::is_found(free);
     let cached = table_layout::cached_of(t, base_lists::size(peer));
     let valid = is_valid(table_tids::tid_test(cached, tid));
     let opening = row_choice::opening_of(step_arrivals::arrived(s, p, full, valid));

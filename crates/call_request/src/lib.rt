@@ -59,10 +59,7 @@ fn none_free(free: Found, class: u64) -> bool
     ensures { λ r. ⌜ r ≡ noneFree free class ⌝ }
 {
     if 0 < class {
-        match free {
-            Found::At(_) => false,
-            Found::Nothing => true,
-        }
+        !table_finding::is_found(free)
     } else {
         false
     }
