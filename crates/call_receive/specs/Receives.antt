@@ -9,7 +9,6 @@ use Rattle.base_layout.specs.Layout.{peerBound, peers, cellSize, datagramBound}
 use Rattle.base_lists.specs.Seq.{pick}
 use Rattle.base_numbers.specs.declared.Refusal.the-variants.{PeerTooLarge, WrongLength}
 use Rattle.codec_pdu.specs.declared.Kind.{Kind}
-use Rattle.codec_pdu.specs.declared.Kind.the-variants.{Invoke, Result, Ack, Abort, SegInvoke, SegResult, Nack, Wrong, Refused}
 use Rattle.codec_pdu.specs.declared.Pdu.{Pdu}
 use Rattle.codec_reading.specs.Read.{pduOf}
 use Rattle.table_record.specs.declared.Role.{Role}
@@ -22,7 +21,7 @@ use Rattle.table_tids.specs.declared.Test.{Test as TidTest}
 use Rattle.table_tids.specs.declared.Test.the-variants.{Valid, Verified}
 use Rattle.row_events.specs.declared.Opening.{Opening}
 use Rattle.row_choice.specs.Rows.{openingOf}
-use Rattle.step_arrivals.specs.Arrivals.{nameOf, eventOf, causeOf, infoOf, arrivedOf}
+use Rattle.step_arrivals.specs.Arrivals.{nameOf, eventOf, causeOf, infoOf, wantedOf, arrivedOf}
 use Rattle.step_arrivals.specs.declared.Name.{Name}
 use Rattle.step_arrivals.specs.declared.Name.the-variants.{Nobody, Of}
 use Rattle.row_turns.specs.declared.Given.{Given}
@@ -37,7 +36,6 @@ use Rattle.step_plan.specs.declared.Step.{Step}
 use Rattle.step_plan.specs.declared.Plan.{Plan}
 use Rattle.step_opening.specs.Opens.{placeFor, openingStep}
 use Rattle.step_live.specs.Turning.{liveStep}
-use Rattle.call_receive.specs.declared.Wish.{Wish}
 
 -- the tests of its refusals; document 01's conditions are in crates/law_refusals
 abbrev pub receiveTests : List ℕ → ℕ → ℕ → ℕ → ℕ → ℕ → List Test
@@ -76,30 +74,15 @@ unfoldable pub isValid : TidTest → Bool
 isValid Valid = true
 isValid Verified = false
 
--- class and U/P of an Invoke
-abbrev pub noWish : Wish
-noWish = record { class = 0; up = false }
-
-unfoldable pub wishOf : Kind → Wish
-wishOf (Invoke gtr ttr rid version n up class) = record { class = class; up = up }
-wishOf (Result gtr ttr rid) = noWish
-wishOf (Ack tve rid) = noWish
-wishOf (Abort t r) = noWish
-wishOf (SegInvoke gtr ttr rid p) = noWish
-wishOf (SegResult gtr ttr rid p) = noWish
-wishOf (Nack rid n l) = noWish
-wishOf (Wrong d) = noWish
-wishOf (Refused r) = noWish
-
--- whom it concerns, and where its record would be opened
+-- whom it concerns, where its record would be opened, and the class and U/P that it asks for
 unfoldable pub arriverOf : ℕ → Role → ℕ → ℕ → Kind → Holder
 arriverOf place role peer tid kind = record {
   place = place;
   role = role;
   peer = peer;
   tid = tid;
-  class = wishOf kind .class;
-  up = wishOf kind .up;
+  class = wantedOf kind .class;
+  up = wantedOf kind .up;
   len = 0;
 }
 

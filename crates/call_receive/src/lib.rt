@@ -6,7 +6,7 @@ ghost use Rattle.base_layout.specs.Layout.{timeBound, tidBound, recordsBound};
 ghost use Rattle.table_layout.specs.Table.{count, recordAt};
 ghost use Rattle.table_well_formed.specs.WellFormed.{WellFormed};
 ghost use Rattle.call_refusal.specs.Judging.{lowest};
-ghost use Rattle.call_receive.specs.Receives.{receiveTests, keptPart, takenStep, isValid, noWish, wishOf, arriverOf, openedStep, unmatchedStep, namingStep, receiveStep, receivePlan};
+ghost use Rattle.call_receive.specs.Receives.{receiveTests, keptPart, takenStep, isValid, arriverOf, openedStep, unmatchedStep, namingStep, receiveStep, receivePlan};
 use base_numbers::Refusal;
 use call_refusal::Judged;
 use codec_pdu::Kind;
@@ -101,52 +101,18 @@ fn is_valid(test: Test) -> bool
     }
 }
 
-// Class and U/P of an Invoke; of any other PDU zeros.
-struct Wish {
-    class: u8,
-    up: bool,
-}
-
-fn no_wish() -> Wish
-    ensures { λ r. ⌜ r ≡ noWish ⌝ }
-{
-    Wish {
-        class: 0,
-        up: false,
-    }
-}
-
-fn wish_of(kind: Kind) -> Wish
-    ensures { λ r. ⌜ r ≡ wishOf kind ⌝ }
-{
-    match kind {
-        Kind::Invoke { up, class, .. } => Wish {
-            class: class,
-            up: up,
-        },
-        Kind::Result { .. } => no_wish(),
-        Kind::Ack { .. } => no_wish(),
-        Kind::Abort { .. } => no_wish(),
-        Kind::SegInvoke { .. } => no_wish(),
-        Kind::SegResult { .. } => no_wish(),
-        Kind::Nack { .. } => no_wish(),
-        Kind::Wrong(_) => no_wish(),
-        Kind::Refused(_) => no_wish(),
-    }
-}
-
 // Whom a PDU without a live record concerns, and the place where its record would be opened.
 fn arriver(place: usize, role: Role, peer: u8, tid: u16, kind: Kind) -> Holder
     ensures { λ r. ⌜ r ≡ arriverOf place role peer tid kind ⌝ }
 {
-    let wish = wish_of(kind);
+    let want = step_arrivals::wanted_by(kind);
     Holder {
         place: place,
         role: role,
         peer: peer,
         tid: tid,
-        class: wish.class,
-        up: wish.up,
+        class: want.class,
+        up: want.up,
         len: 0,
     }
 }
