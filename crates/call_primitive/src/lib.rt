@@ -3,7 +3,7 @@ ghost use mathlib.Core.Path.{_≡_};
 ghost use Prim.Native.Nat.{_≤_};
 ghost use Rattle.base_layout.specs.Layout.{timeBound, exitBound, cellSize};
 ghost use Rattle.table_finding.specs.Finding.{Within};
-ghost use Rattle.call_primitive.specs.Primitives.{Named, namedBy, isResponder, exitRefused, tooMuch, refusesRow, notAllowed, entryTests, foundTests, primitiveStep, foundFor, foundPlan, primitivePlan};
+ghost use Rattle.call_primitive.specs.Primitives.{Named, namedBy, isResponder, exitRefused, tooMuch, refusesRow, notAllowed, foundTests, primitiveStep, foundFor, foundPlan, primitivePlan};
 ghost use Rattle.table_well_formed.specs.WellFormed.{WellFormed};
 ghost use Rattle.call_refusal.specs.Judging.{lowest};
 use base_numbers::Refusal;
@@ -111,22 +111,6 @@ fn not_allowed(t: &[u8], found: Found, event: Event) -> bool
     }
 }
 
-// The lowest of the numbers 1 to 3 that applies.
-fn judged(t: &[u8], store: usize, output: usize, p: Primitive) -> Judged
-    ensures { λ r. ⌜ r ≡ lowest (entryTests (now (t .entry)) store output p) ⌝ }
-{
-    if !table_well_formed::fits(t, store, output) {
-        return Judged::Refuse(Refusal::WrongSize);
-    }
-    if call_refusal::late(t, p.time) {
-        return Judged::Refuse(Refusal::WrongTime);
-    }
-    if base_layout::PEER_BOUND < p.peer {
-        return Judged::Refuse(Refusal::PeerTooLarge);
-    }
-    Judged::Accept
-}
-
 // The lowest of the numbers 4, 8, 9 that applies, with the named record found.
 fn judged_found(t: &[u8], found: Found, p: Primitive) -> Judged
     requires { ⌜ Within (now t) found ⌝ }
@@ -194,7 +178,7 @@ fn with_found(t: &[u8], found: Found, p: Primitive) -> Plan
 pub fn planned(t: &[u8], store: usize, output: usize, p: Primitive) -> Plan
     ensures { λ r. ⌜ r ≡ primitivePlan (now (t .entry)) store output p ⌝ }
 {
-    match judged(t, store, output, p) {
+    match call_refusal::peer_entry(t, store, output, p.time, p.peer) {
         Judged::Refuse(r) => Plan::Refuse(r),
         Judged::Accept => with_found(t, named_by(t, p.role, p.peer, p.tid), p),
     }

@@ -1,13 +1,13 @@
 -- A received PDU (01, "TIDs", "Events"): its refusals, and the step of an accepted one.
 use Prim.Native.Nat.{ℕ, _%_, _≤_, _<_}
 use mathlib.Core.Path.{_≡_}
-use mathlib.Core.List.{List, [], _∷_}
+use mathlib.Core.List.{List, [], _∷_, _++_}
 use mathlib.Core.Bool.{Bool, true, false, not}
 use lib.ListN.{length}
 use lib.Dec.{ltb, eqb}
-use Rattle.base_layout.specs.Layout.{peerBound, peers, cellSize, datagramBound}
+use Rattle.base_layout.specs.Layout.{peers, cellSize, datagramBound}
 use Rattle.base_lists.specs.Seq.{pick}
-use Rattle.base_numbers.specs.declared.Refusal.the-variants.{PeerTooLarge, WrongLength}
+use Rattle.base_numbers.specs.declared.Refusal.the-variants.{WrongLength}
 use Rattle.codec_pdu.specs.declared.Kind.{Kind}
 use Rattle.codec_pdu.specs.declared.Pdu.{Pdu}
 use Rattle.codec_reading.specs.Read.{pduOf}
@@ -26,7 +26,7 @@ use Rattle.step_arrivals.specs.declared.Name.{Name}
 use Rattle.step_arrivals.specs.declared.Name.the-variants.{Nobody, Of}
 use Rattle.row_turns.specs.declared.Given.{Given}
 use Rattle.step_commit.specs.declared.Header.the-variants.{Kept}
-use Rattle.call_refusal.specs.Judging.{Test, test, lowest, planBy, unfit, tooLate}
+use Rattle.call_refusal.specs.Judging.{Test, test, lowest, planBy, peerTests}
 use Rattle.step_plan.specs.Steps.{noPart, idleStep}
 use Rattle.step_plan.specs.declared.Part.{Part}
 use Rattle.step_plan.specs.declared.Holder.{Holder}
@@ -37,14 +37,14 @@ use Rattle.step_plan.specs.declared.Plan.{Plan}
 use Rattle.step_opening.specs.Opens.{placeFor, openingStep}
 use Rattle.step_live.specs.Turning.{liveStep}
 
+-- 11: "datagram or PDU length outside 1 to 1,500"
+abbrev pub wrongLength : ℕ → Bool
+wrongLength len = pick (eqb len 0) true (ltb datagramBound len)
+
 -- the tests of its refusals; document 01's conditions are in crates/law_refusals
 abbrev pub receiveTests : List ℕ → ℕ → ℕ → ℕ → ℕ → ℕ → List Test
 receiveTests t store output time peer len =
-    unfit t store output
-    ∷ tooLate t time
-    ∷ test PeerTooLarge (ltb peerBound peer)
-    ∷ test WrongLength (pick (eqb len 0) true (ltb datagramBound len))
-    ∷ []
+    peerTests t store output time peer ++ (test WrongLength (wrongLength len) ∷ [])
 
 -- ---- a PDU for a live record
 

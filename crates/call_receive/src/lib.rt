@@ -6,7 +6,7 @@ ghost use Rattle.base_layout.specs.Layout.{timeBound, tidBound, recordsBound};
 ghost use Rattle.table_layout.specs.Table.{count, recordAt};
 ghost use Rattle.table_well_formed.specs.WellFormed.{WellFormed};
 ghost use Rattle.call_refusal.specs.Judging.{lowest};
-ghost use Rattle.call_receive.specs.Receives.{receiveTests, keptPart, takenStep, isValid, arriverOf, openedStep, unmatchedStep, namingStep, receiveStep, receivePlan};
+ghost use Rattle.call_receive.specs.Receives.{wrongLength, receiveTests, keptPart, takenStep, isValid, arriverOf, openedStep, unmatchedStep, namingStep, receiveStep, receivePlan};
 use base_numbers::Refusal;
 use call_refusal::Judged;
 use codec_pdu::Kind;
@@ -25,26 +25,31 @@ use table_finding::Found;
 use table_record::Role;
 use table_tids::Test;
 
+// Number 11.
+fn wrong_length(len: usize) -> bool
+    ensures { λ r. ⌜ r ≡ wrongLength len ⌝ }
+{
+    if len == 0 {
+        true
+    } else {
+        base_layout::DATAGRAM_BOUND < len
+    }
+}
+
 // The lowest number that applies.
 fn judged(t: &[u8], store: usize, output: usize, time: u64, peer: u64, len: usize) -> Judged
     ensures { λ r. ⌜ r ≡ lowest (receiveTests (now (t .entry)) store output time peer len) ⌝ }
 {
-    if !table_well_formed::fits(t, store, output) {
-        return Judged::Refuse(Refusal::WrongSize);
+    match call_refusal::peer_entry(t, store, output, time, peer) {
+        Judged::Refuse(r) => Judged::Refuse(r),
+        Judged::Accept => {
+            if wrong_length(len) {
+                Judged::Refuse(Refusal::WrongLength)
+            } else {
+                Judged::Accept
+            }
+        }
     }
-    if call_refusal::late(t, time) {
-        return Judged::Refuse(Refusal::WrongTime);
-    }
-    if base_layout::PEER_BOUND < peer {
-        return Judged::Refuse(Refusal::PeerTooLarge);
-    }
-    if len == 0 {
-        return Judged::Refuse(Refusal::WrongLength);
-    }
-    if base_layout::DATAGRAM_BOUND < len {
-        return Judged::Refuse(Refusal::WrongLength);
-    }
-    Judged::Accept
 }
 
 // A PDU that comes to the live record at a place.
