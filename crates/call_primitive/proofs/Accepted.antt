@@ -2,9 +2,8 @@
 use Prim.Native.Nat.{ℕ, _≤_, _<_}
 use native.Mathlib.Omega.{arith}
 use borrow.Author.Tests.{ltb-false}
-use mathlib.Core.Path.{_≡_, refl, sym, ap, _∙_}
-use mathlib.Core.List.{List, _++_}
-use mathlib.Core.Bool.{Bool, true, false}
+use mathlib.Core.Path.{_≡_, refl}
+use mathlib.Core.List.{List}
 use Rattle.base_layout.specs.Layout.{timeBound, peers, exitBound, cellSize}
 use Rattle.base_lists.proofs.StoresAndParts.{true-false}
 use Rattle.table_layout.specs.Table.{clockOf}
@@ -16,13 +15,12 @@ use Rattle.step_opening.specs.Opens.{placeFor}
 use Rattle.law_places.proofs.Places.{LiveAt}
 use Rattle.step_live.specs.Turning.{rowAt}
 use Rattle.step_plan.specs.declared.Step.{Step}
-use Rattle.step_plan.specs.declared.Plan.{Plan}
 use Rattle.step_plan.specs.declared.Plan.the-variants as Plan
-use Rattle.call_refusal.specs.Judging.{Test, lowest, planBy}
-use Rattle.call_refusal.specs.declared.Judged.{Judged}
-use Rattle.call_refusal.specs.declared.Judged.the-variants.{Accept, Refuse}
+use Rattle.call_refusal.specs.Judging.{lowest}
+use Rattle.call_refusal.specs.declared.Judged.the-variants.{Accept}
 use Rattle.call_refusal.proofs.Fits.{accepted, fits, in-time}
-use Rattle.call_refusal.proofs.Stages.{next, in-stages}
+use Rattle.call_refusal.proofs.Going.{goes}
+use Rattle.call_refusal.proofs.Stages.{both-stages}
 use Rattle.call_primitive.specs.Primitives.{Named, ExitRefused, notAllowed, entryTests, foundTests, foundFor, primitiveTests, primitiveStep, primitivePlan}
 use Rattle.call_primitive.specs.declared.Primitive.{Primitive}
 use Rattle.call_primitive.proofs.Named.{found-named, named-live}
@@ -68,32 +66,6 @@ module _ (t : List ℕ) (p : Primitive) where
       }
   ready Nothing e h = true-false (accepted (foundTests t Nothing p) h .1 .0)
 
-abbrev accepts : Judged → Bool
-accepts Accept = true
-accepts (Refuse r) = false
-
--- tests that accept in two stages accept in each
-both-stages : (ts us : List Test) → lowest (ts ++ us) ≡ Accept → (lowest ts ≡ Accept) × (lowest us ≡ Accept)
-both-stages ts us e = go (lowest ts) (sym (in-stages ts us) ∙ e)
-  where
-    go : (j : Judged) → next j (lowest us) ≡ Accept → (j ≡ Accept) × (lowest us ≡ Accept)
-    go Accept h = (refl, h)
-    go (Refuse r) h = true-false (sym (ap accepts h))
-
--- a judgement that lets a step go is Accept, and the step is the one it was asked about
-module _ (asked step : Step) where
-  abbrev goes : Plan → Bool
-  goes (Plan.Go s) = true
-  goes (Plan.Refuse r) = false
-
-  abbrev stepIn : Plan → Step
-  stepIn (Plan.Go s) = s
-  stepIn (Plan.Refuse r) = step
-
-  went : (j : Judged) → planBy j asked ≡ Plan.Go step → (j ≡ Accept) × (step ≡ asked)
-  went Accept e = (refl, sym (ap stepIn e))
-  went (Refuse r) e = true-false (sym (ap goes e))
-
 -- what is known of a primitive whose plan is this step
 pub record Accepted (t : List ℕ) (store output : ℕ) (p : Primitive) (step : Step) : Type 0 where
   pub place : ℕ
@@ -105,7 +77,7 @@ pub record Accepted (t : List ℕ) (store output : ℕ) (p : Primitive) (step : 
 pub primitive-accepted : (t : List ℕ) (store output : ℕ) (p : Primitive) (step : Step) → primitivePlan t store output p ≡ Plan.Go step → Accepted t store output p step
 unfolding primitivePlan
 primitive-accepted t store output p step e =
-    let both = went (primitiveStep t (placeFor (foundFor t p)) p) step (lowest (primitiveTests t store output p)) e in
+    let both = goes (primitiveTests t store output p) (primitiveStep t (placeFor (foundFor t p)) p) step e in
     let stages = both-stages (entryTests t store output p) (foundTests t (foundFor t p) p) (both .0) in
     let fit = ready t p (foundFor t p) refl (stages .1) in
     record {

@@ -4,9 +4,9 @@ use mathlib.Core.Path.{_≡_}
 use mathlib.Core.List.{List, [], _∷_, _++_}
 use mathlib.Core.Bool.{Bool, true, false, not}
 use lib.Dec.{ltb, eqb}
-use Rattle.base_layout.specs.Layout.{peerBound, exitBound, cellSize}
+use Rattle.base_layout.specs.Layout.{exitBound, cellSize}
 use Rattle.base_lists.specs.Seq.{pick}
-use Rattle.base_numbers.specs.declared.Refusal.the-variants.{PeerTooLarge, TooLong, NoRecord, NotAllowed}
+use Rattle.base_numbers.specs.declared.Refusal.the-variants.{TooLong, NoRecord, NotAllowed}
 use Rattle.table_record.specs.Record.{roleOf, classOf, roleNumber}
 use Rattle.table_record.specs.declared.Role.{Role}
 use Rattle.table_record.specs.declared.Role.the-variants.{Initiator, Responder}
@@ -20,7 +20,7 @@ use Rattle.row_events.specs.declared.Event.{Event}
 use Rattle.row_events.specs.declared.Row.{Row}
 use Rattle.row_events.specs.declared.Row.the-variants as Row
 use Rattle.row_turns.specs.declared.Given.{Given}
-use Rattle.call_refusal.specs.Judging.{Test, test, lowest, planBy, unfit, tooLate}
+use Rattle.call_refusal.specs.Judging.{Test, test, lowest, planBy, peerTests}
 use Rattle.step_plan.specs.Steps.{noPart}
 use Rattle.step_plan.specs.declared.Call.{Call}
 use Rattle.step_plan.specs.declared.Tells.the-variants.{Nothing}
@@ -81,11 +81,7 @@ notAllowed t Found.Nothing event = false
 
 -- numbers 1 to 3
 abbrev pub entryTests : List ℕ → ℕ → ℕ → Primitive → List Test
-entryTests t store output p =
-    unfit t store output
-    ∷ tooLate t (p .time)
-    ∷ test PeerTooLarge (ltb peerBound (p .peer))
-    ∷ []
+entryTests t store output p = peerTests t store output (p .time) (p .peer)
 
 -- numbers 4, 8, 9, of the record that is named
 abbrev pub foundTests : List ℕ → Found → Primitive → List Test

@@ -1,10 +1,9 @@
 // What a user's answer, result or abort will do: the three primitives that name a record.
 ghost use mathlib.Core.Path.{_≡_};
 ghost use Prim.Native.Nat.{_≤_};
-ghost use mathlib.Core.Bool.{not};
 ghost use Rattle.base_layout.specs.Layout.{timeBound, exitBound, cellSize};
-ghost use Rattle.table_finding.specs.Finding.{isFound, Within};
-ghost use Rattle.call_primitive.specs.Primitives.{Named, namedBy, isResponder, exitRefused, tooMuch, refusesRow, notAllowed, entryTests, foundTests, primitiveStep, foundFor, foundPlan, primitivePlan};
+ghost use Rattle.table_finding.specs.Finding.{Within};
+ghost use Rattle.call_primitive.specs.Primitives.{Named, namedBy, isResponder, exitRefused, tooMuch, refusesRow, notAllowed, foundTests, primitiveStep, foundFor, foundPlan, primitivePlan};
 ghost use Rattle.table_well_formed.specs.WellFormed.{WellFormed};
 ghost use Rattle.call_refusal.specs.Judging.{lowest};
 use base_numbers::Refusal;
@@ -38,10 +37,10 @@ fn named_by(t: &[u8], role: u64, peer: u64, tid: u64) -> Found
     ensures { λ r. ⌜ r ≡ namedBy (now (t .entry)) role peer tid ⌝ }
 {
     if role == 0 {
-        return table_finding::named(t, call_refusal::records(t), Role::Initiator, peer, tid);
+        return table_finding::named(t, table_layout::records(t), Role::Initiator, peer, tid);
     }
     if role == 1 {
-        return table_finding::named(t, call_refusal::records(t), Role::Responder, peer, tid);
+        return table_finding::named(t, table_layout::records(t), Role::Responder, peer, tid);
     }
     Found::Nothing
 }
@@ -112,31 +111,6 @@ fn not_allowed(t: &[u8], found: Found, event: Event) -> bool
     }
 }
 
-// The lowest of the numbers 1 to 3 that applies.
-fn judged(t: &[u8], store: usize, output: usize, p: Primitive) -> Judged
-    ensures { λ r. ⌜ r ≡ lowest (entryTests (now (t .entry)) store output p) ⌝ }
-{
-    if !table_well_formed::fits(t, store, output) {
-        return Judged::Refuse(Refusal::WrongSize);
-    }
-    if call_refusal::late(t, p.time) {
-        return Judged::Refuse(Refusal::WrongTime);
-    }
-    if base_layout::PEER_BOUND < p.peer {
-        return Judged::Refuse(Refusal::PeerTooLarge);
-    }
-    Judged::Accept
-}
-
-fn nobody(found: Found) -> bool
-    ensures { λ r. ⌜ r ≡ not (isFound found) ⌝ }
-{
-    match found {
-        Found::At(_) => false,
-        Found::Nothing => true,
-    }
-}
-
 // The lowest of the numbers 4, 8, 9 that applies, with the named record found.
 fn judged_found(t: &[u8], found: Found, p: Primitive) -> Judged
     requires { ⌜ Within (now t) found ⌝ }
@@ -146,7 +120,7 @@ fn judged_found(t: &[u8], found: Found, p: Primitive) -> Judged
     if too_much(t, p, found) {
         return Judged::Refuse(Refusal::TooLong);
     }
-    if nobody(found) {
+    if !table_finding::is_found(found) {
         return Judged::Refuse(Refusal::NoRecord);
     }
     if not_allowed(t, found, event) {
@@ -204,7 +178,7 @@ fn with_found(t: &[u8], found: Found, p: Primitive) -> Plan
 pub fn planned(t: &[u8], store: usize, output: usize, p: Primitive) -> Plan
     ensures { λ r. ⌜ r ≡ primitivePlan (now (t .entry)) store output p ⌝ }
 {
-    match judged(t, store, output, p) {
+    match call_refusal::peer_entry(t, store, output, p.time, p.peer) {
         Judged::Refuse(r) => Plan::Refuse(r),
         Judged::Accept => with_found(t, named_by(t, p.role, p.peer, p.tid), p),
     }

@@ -34,7 +34,7 @@ use Rattle.step_arrivals.specs.declared.Name.the-variants.{Nobody, Of}
 use Rattle.step_arrivals.proofs.Names.{name-below, invoke-names-responder}
 use Rattle.step_opening.specs.Opens.{placeFor}
 use Rattle.step_plan.specs.Steps.{idleStep}
-use Rattle.call_receive.specs.Receives.{isFull, arrivalOpening, takenStep, unmatchedStep, receiveStep}
+use Rattle.call_receive.specs.Receives.{arrivalOpening, takenStep, unmatchedStep, receiveStep}
 use Rattle.call_receive.proofs.Dispatch.{nobody-idle, live-takes, none-takes}
 
 -- the live record that it names takes it
@@ -122,7 +122,7 @@ pub record Opens (t : List ℕ) (s : List ℕ) : Type 0 where
 
 -- what comes without a live record leaves none, or opens one
 pub leaves-or-opens : (t : List ℕ) (peer tid : ℕ) (s : List ℕ) (p : Pdu) → (openingAct (arrivalOpening t peer tid s p) .next ≡ Ends) ⊎ Opens t s
-unfolding arrivalOpening arrivedOf isFull placeFor
+unfolding arrivalOpening arrivedOf placeFor
 leaves-or-opens t peer tid s p = go (opens-or-ends _)
   where
     at-place : (f : Found) → not (isFound f) ≡ false → f ≡ Found.At (placeFor f)

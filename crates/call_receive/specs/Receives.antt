@@ -1,15 +1,14 @@
 -- A received PDU (01, "TIDs", "Events"): its refusals, and the step of an accepted one.
 use Prim.Native.Nat.{ℕ, _%_, _≤_, _<_}
 use mathlib.Core.Path.{_≡_}
-use mathlib.Core.List.{List, [], _∷_}
+use mathlib.Core.List.{List, [], _∷_, _++_}
 use mathlib.Core.Bool.{Bool, true, false, not}
 use lib.ListN.{length}
 use lib.Dec.{ltb, eqb}
-use Rattle.base_layout.specs.Layout.{peerBound, peers, cellSize, datagramBound}
+use Rattle.base_layout.specs.Layout.{peers, cellSize, datagramBound}
 use Rattle.base_lists.specs.Seq.{pick}
-use Rattle.base_numbers.specs.declared.Refusal.the-variants.{PeerTooLarge, WrongLength}
+use Rattle.base_numbers.specs.declared.Refusal.the-variants.{WrongLength}
 use Rattle.codec_pdu.specs.declared.Kind.{Kind}
-use Rattle.codec_pdu.specs.declared.Kind.the-variants.{Invoke, Result, Ack, Abort, SegInvoke, SegResult, Nack, Wrong, Refused}
 use Rattle.codec_pdu.specs.declared.Pdu.{Pdu}
 use Rattle.codec_reading.specs.Read.{pduOf}
 use Rattle.table_record.specs.declared.Role.{Role}
@@ -22,12 +21,12 @@ use Rattle.table_tids.specs.declared.Test.{Test as TidTest}
 use Rattle.table_tids.specs.declared.Test.the-variants.{Valid, Verified}
 use Rattle.row_events.specs.declared.Opening.{Opening}
 use Rattle.row_choice.specs.Rows.{openingOf}
-use Rattle.step_arrivals.specs.Arrivals.{nameOf, eventOf, causeOf, infoOf, arrivedOf}
+use Rattle.step_arrivals.specs.Arrivals.{nameOf, eventOf, causeOf, infoOf, wantedOf, arrivedOf}
 use Rattle.step_arrivals.specs.declared.Name.{Name}
 use Rattle.step_arrivals.specs.declared.Name.the-variants.{Nobody, Of}
 use Rattle.row_turns.specs.declared.Given.{Given}
 use Rattle.step_commit.specs.declared.Header.the-variants.{Kept}
-use Rattle.call_refusal.specs.Judging.{Test, test, lowest, planBy, unfit, tooLate}
+use Rattle.call_refusal.specs.Judging.{Test, test, lowest, planBy, peerTests}
 use Rattle.step_plan.specs.Steps.{noPart, idleStep}
 use Rattle.step_plan.specs.declared.Part.{Part}
 use Rattle.step_plan.specs.declared.Holder.{Holder}
@@ -37,16 +36,15 @@ use Rattle.step_plan.specs.declared.Step.{Step}
 use Rattle.step_plan.specs.declared.Plan.{Plan}
 use Rattle.step_opening.specs.Opens.{placeFor, openingStep}
 use Rattle.step_live.specs.Turning.{liveStep}
-use Rattle.call_receive.specs.declared.Wish.{Wish}
+
+-- 11: "datagram or PDU length outside 1 to 1,500"
+abbrev pub wrongLength : ℕ → Bool
+wrongLength len = pick (eqb len 0) true (ltb datagramBound len)
 
 -- the tests of its refusals; document 01's conditions are in crates/law_refusals
 abbrev pub receiveTests : List ℕ → ℕ → ℕ → ℕ → ℕ → ℕ → List Test
 receiveTests t store output time peer len =
-    unfit t store output
-    ∷ tooLate t time
-    ∷ test PeerTooLarge (ltb peerBound peer)
-    ∷ test WrongLength (pick (eqb len 0) true (ltb datagramBound len))
-    ∷ []
+    peerTests t store output time peer ++ (test WrongLength (wrongLength len) ∷ [])
 
 -- ---- a PDU for a live record
 
@@ -71,39 +69,20 @@ takenStep t place time p = liveStep t place (eventOf (p .kind)) (takenGiven time
 unfoldable pub keptPart : Pdu → Part
 keptPart p = pick (ltb cellSize (p .len)) noPart (userPart p)
 
--- "no free record"
-unfoldable pub isFull : Found → Bool
-isFull free = not (isFound free)
-
 -- "Valid when 1 ≤ d ≤ 16,383"
 unfoldable pub isValid : TidTest → Bool
 isValid Valid = true
 isValid Verified = false
 
--- class and U/P of an Invoke
-abbrev pub noWish : Wish
-noWish = record { class = 0; up = false }
-
-unfoldable pub wishOf : Kind → Wish
-wishOf (Invoke gtr ttr rid version n up class) = record { class = class; up = up }
-wishOf (Result gtr ttr rid) = noWish
-wishOf (Ack tve rid) = noWish
-wishOf (Abort t r) = noWish
-wishOf (SegInvoke gtr ttr rid p) = noWish
-wishOf (SegResult gtr ttr rid p) = noWish
-wishOf (Nack rid n l) = noWish
-wishOf (Wrong d) = noWish
-wishOf (Refused r) = noWish
-
--- whom it concerns, and where its record would be opened
+-- whom it concerns, where its record would be opened, and the class and U/P that it asks for
 unfoldable pub arriverOf : ℕ → Role → ℕ → ℕ → Kind → Holder
 arriverOf place role peer tid kind = record {
   place = place;
   role = role;
   peer = peer;
   tid = tid;
-  class = wishOf kind .class;
-  up = wishOf kind .up;
+  class = wantedOf kind .class;
+  up = wantedOf kind .up;
   len = 0;
 }
 
@@ -117,9 +96,9 @@ openedCall p = record { message = keptPart p; info = noPart; user = userPart p; 
 unfoldable pub openedStep : List ℕ → Opening → Holder → ℕ → Pdu → Step
 openedStep t opening h time p = openingStep t opening h (openedGiven time p) Kept (openedCall p)
 
--- the row of a PDU without a live record
+-- the row of a PDU without a live record; one of its tests is "no free record"
 unfoldable pub arrivalOpening : List ℕ → ℕ → ℕ → List ℕ → Pdu → Opening
-arrivalOpening t peer tid s p = openingOf (arrivedOf s p (isFull (freeOf t (count t))) (isValid (testOf (cachedOf t peer) tid)))
+arrivalOpening t peer tid s p = openingOf (arrivedOf s p (not (isFound (freeOf t (count t)))) (isValid (testOf (cachedOf t peer) tid)))
 
 unfoldable pub unmatchedStep : List ℕ → Role → ℕ → ℕ → ℕ → List ℕ → Pdu → Step
 unmatchedStep t role peer tid time s p =

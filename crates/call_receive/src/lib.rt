@@ -6,7 +6,7 @@ ghost use Rattle.base_layout.specs.Layout.{timeBound, tidBound, recordsBound};
 ghost use Rattle.table_layout.specs.Table.{count, recordAt};
 ghost use Rattle.table_well_formed.specs.WellFormed.{WellFormed};
 ghost use Rattle.call_refusal.specs.Judging.{lowest};
-ghost use Rattle.call_receive.specs.Receives.{receiveTests, keptPart, takenStep, isFull, isValid, noWish, wishOf, arriverOf, openedStep, unmatchedStep, namingStep, receiveStep, receivePlan};
+ghost use Rattle.call_receive.specs.Receives.{wrongLength, receiveTests, keptPart, takenStep, isValid, arriverOf, openedStep, unmatchedStep, namingStep, receiveStep, receivePlan};
 use base_numbers::Refusal;
 use call_refusal::Judged;
 use codec_pdu::Kind;
@@ -25,26 +25,31 @@ use table_finding::Found;
 use table_record::Role;
 use table_tids::Test;
 
+// Number 11.
+fn wrong_length(len: usize) -> bool
+    ensures { λ r. ⌜ r ≡ wrongLength len ⌝ }
+{
+    if len == 0 {
+        true
+    } else {
+        base_layout::DATAGRAM_BOUND < len
+    }
+}
+
 // The lowest number that applies.
 fn judged(t: &[u8], store: usize, output: usize, time: u64, peer: u64, len: usize) -> Judged
     ensures { λ r. ⌜ r ≡ lowest (receiveTests (now (t .entry)) store output time peer len) ⌝ }
 {
-    if !table_well_formed::fits(t, store, output) {
-        return Judged::Refuse(Refusal::WrongSize);
+    match call_refusal::peer_entry(t, store, output, time, peer) {
+        Judged::Refuse(r) => Judged::Refuse(r),
+        Judged::Accept => {
+            if wrong_length(len) {
+                Judged::Refuse(Refusal::WrongLength)
+            } else {
+                Judged::Accept
+            }
+        }
     }
-    if call_refusal::late(t, time) {
-        return Judged::Refuse(Refusal::WrongTime);
-    }
-    if base_layout::PEER_BOUND < peer {
-        return Judged::Refuse(Refusal::PeerTooLarge);
-    }
-    if len == 0 {
-        return Judged::Refuse(Refusal::WrongLength);
-    }
-    if base_layout::DATAGRAM_BOUND < len {
-        return Judged::Refuse(Refusal::WrongLength);
-    }
-    Judged::Accept
 }
 
 // A PDU that comes to the live record at a place.
@@ -92,16 +97,6 @@ fn kept_part(p: Pdu) -> Part
     }
 }
 
-// Whether no record is free.
-fn is_full(free: Found) -> bool
-    ensures { λ r. ⌜ r ≡ isFull free ⌝ }
-{
-    match free {
-        Found::At(_) => false,
-        Found::Nothing => true,
-    }
-}
-
 fn is_valid(test: Test) -> bool
     ensures { λ r. ⌜ r ≡ isValid test ⌝ }
 {
@@ -111,52 +106,18 @@ fn is_valid(test: Test) -> bool
     }
 }
 
-// Class and U/P of an Invoke; of any other PDU zeros.
-struct Wish {
-    class: u8,
-    up: bool,
-}
-
-fn no_wish() -> Wish
-    ensures { λ r. ⌜ r ≡ noWish ⌝ }
-{
-    Wish {
-        class: 0,
-        up: false,
-    }
-}
-
-fn wish_of(kind: Kind) -> Wish
-    ensures { λ r. ⌜ r ≡ wishOf kind ⌝ }
-{
-    match kind {
-        Kind::Invoke { up, class, .. } => Wish {
-            class: class,
-            up: up,
-        },
-        Kind::Result { .. } => no_wish(),
-        Kind::Ack { .. } => no_wish(),
-        Kind::Abort { .. } => no_wish(),
-        Kind::SegInvoke { .. } => no_wish(),
-        Kind::SegResult { .. } => no_wish(),
-        Kind::Nack { .. } => no_wish(),
-        Kind::Wrong(_) => no_wish(),
-        Kind::Refused(_) => no_wish(),
-    }
-}
-
 // Whom a PDU without a live record concerns, and the place where its record would be opened.
 fn arriver(place: usize, role: Role, peer: u8, tid: u16, kind: Kind) -> Holder
     ensures { λ r. ⌜ r ≡ arriverOf place role peer tid kind ⌝ }
 {
-    let wish = wish_of(kind);
+    let want = step_arrivals::wanted_by(kind);
     Holder {
         place: place,
         role: role,
         peer: peer,
         tid: tid,
-        class: wish.class,
-        up: wish.up,
+        class: want.class,
+        up: want.up,
         len: 0,
     }
 }
@@ -195,8 +156,8 @@ fn unmatched(t: &[u8], role: Role, peer: u8, tid: u16, time: u64, s: &[u8], p: P
     ensures { λ r. ⌜ r ≡ unmatchedStep (now (t .entry)) role peer tid time (now (s .entry)) p ⌝ }
 {
     let kind = p.kind;
-    let free = table_finding::free(t, call_refusal::records(t));
-    let full = is_full(free);
+    let free = table_finding::free(t, table_layout::records(t));
+    let full = !table_finding::is_found(free);
     let cached = table_layout::cached_of(t, base_lists::size(peer));
     let valid = is_valid(table_tids::tid_test(cached, tid));
     let opening = row_choice::opening_of(step_arrivals::arrived(s, p, full, valid));
@@ -211,7 +172,7 @@ fn naming(t: &[u8], role: Role, peer: u8, tid: u16, time: u64, s: &[u8]) -> Step
     ensures { λ r. ⌜ r ≡ namingStep (now (t .entry)) role peer tid time (now (s .entry)) ⌝ }
 {
     let p = codec_reading::read(s);
-    match table_finding::named(t, call_refusal::records(t), role, peer as u64, tid as u64) {
+    match table_finding::named(t, table_layout::records(t), role, peer as u64, tid as u64) {
         Found::At(i) => taken(t, i, time, p),
         Found::Nothing => unmatched(t, role, peer, tid, time, s, p),
     }

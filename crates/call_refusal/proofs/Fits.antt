@@ -23,7 +23,7 @@ NoneHolds [] = Unit
 NoneHolds (t ∷ ts) = (t .holds ≡ false) × NoneHolds ts
 
 -- whether a call is accepted
-abbrev isAccept : Judged → Bool
+abbrev pub isAccept : Judged → Bool
 isAccept Accept = true
 isAccept (Refuse r) = false
 

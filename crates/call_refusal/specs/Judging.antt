@@ -1,14 +1,14 @@
 -- Refusals (01, "Numbers given back"): "The lowest applicable number is given, and none without its condition".
 use Prim.Native.Nat.{ℕ, _<_}
 use mathlib.Core.Path.{_≡_}
-use mathlib.Core.List.{List, [], _∷_}
+use mathlib.Core.List.{List, [], _∷_, _++_}
 use mathlib.Core.Bool.{Bool, true, false, not}
 use mathlib.Core.Logic.{_⊎_}
 use lib.Dec.{ltb}
-use Rattle.base_layout.specs.Layout.{timeBound}
+use Rattle.base_layout.specs.Layout.{timeBound, peerBound}
 use Rattle.base_lists.specs.Seq.{pick}
 use Rattle.base_numbers.specs.declared.Refusal.{Refusal}
-use Rattle.base_numbers.specs.declared.Refusal.the-variants.{WrongSize, WrongTime}
+use Rattle.base_numbers.specs.declared.Refusal.the-variants.{WrongSize, WrongTime, PeerTooLarge}
 use Rattle.table_layout.specs.Table.{clockOf}
 use Rattle.table_well_formed.specs.WellFormed.{Fitting, fitting}
 use Rattle.step_plan.specs.declared.Step.{Step}
@@ -64,3 +64,11 @@ tooLate t time = test WrongTime (lateOf t time)
 
 abbrev pub Late : List ℕ → ℕ → Condition
 Late t time = condition WrongTime ((time < clockOf t) ⊎ (timeBound < time))
+
+-- 1 and 2, by which every call is judged first; the numbers that follow are a call's own
+abbrev pub firstTests : List ℕ → ℕ → ℕ → ℕ → List Test
+firstTests t store output time = unfit t store output ∷ tooLate t time ∷ []
+
+-- 1 to 3, of a call that names a peer; 3: "peer over 255"
+abbrev pub peerTests : List ℕ → ℕ → ℕ → ℕ → ℕ → List Test
+peerTests t store output time peer = firstTests t store output time ++ (test PeerTooLarge (ltb peerBound peer) ∷ [])

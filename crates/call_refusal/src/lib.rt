@@ -3,8 +3,7 @@ ghost use mathlib.Core.Path.{_≡_};
 ghost use Prim.Native.Nat.{_≤_};
 ghost use lib.ListN.{length};
 ghost use Rattle.base_layout.specs.Layout.{headerSize};
-ghost use Rattle.table_layout.specs.Table.{count};
-ghost use Rattle.call_refusal.specs.Judging.{lateOf};
+ghost use Rattle.call_refusal.specs.Judging.{lowest, lateOf, firstTests, peerTests};
 use base_numbers::Refusal;
 
 // Whether a call is accepted.
@@ -14,7 +13,7 @@ pub enum Judged {
 }
 
 // Number 2: the time is below the last accepted one or over the bound.
-pub fn late(t: &[u8], time: u64) -> bool
+fn late(t: &[u8], time: u64) -> bool
     requires { ⌜ headerSize ≤ length (now t) ⌝ }
     ensures { λ r. ⌜ r ≡ lateOf (now (t .entry)) time ⌝ }
 {
@@ -25,10 +24,31 @@ pub fn late(t: &[u8], time: u64) -> bool
     }
 }
 
-// How many records a table has.
-pub fn records(t: &[u8]) -> usize
-    requires { ⌜ headerSize ≤ length (now t) ⌝ }
-    ensures { λ r. ⌜ r ≡ count (now (t .entry)) ⌝ }
+// The lower of the numbers 1 and 2 that applies: every call is judged by them first.
+pub fn entry(t: &[u8], store: usize, output: usize, time: u64) -> Judged
+    ensures { λ r. ⌜ r ≡ lowest (firstTests (now (t .entry)) store output time) ⌝ }
 {
-    (t.len() - base_layout::HEADER_SIZE) / base_layout::RECORD_SIZE
+    if !table_well_formed::fits(t, store, output) {
+        return Judged::Refuse(Refusal::WrongSize);
+    }
+    if late(t, time) {
+        return Judged::Refuse(Refusal::WrongTime);
+    }
+    Judged::Accept
+}
+
+// The lowest of the numbers 1 to 3 that applies, of a call that names a peer.
+pub fn peer_entry(t: &[u8], store: usize, output: usize, time: u64, peer: u64) -> Judged
+    ensures { λ r. ⌜ r ≡ lowest (peerTests (now (t .entry)) store output time peer) ⌝ }
+{
+    match entry(t, store, output, time) {
+        Judged::Refuse(r) => Judged::Refuse(r),
+        Judged::Accept => {
+            if base_layout::PEER_BOUND < peer {
+                Judged::Refuse(Refusal::PeerTooLarge)
+            } else {
+                Judged::Accept
+            }
+        }
+    }
 }

@@ -4,9 +4,9 @@ use mathlib.Core.Path.{_≡_}
 use mathlib.Core.List.{List, [], _∷_, _++_}
 use mathlib.Core.Bool.{Bool, false, not}
 use lib.Dec.{ltb}
-use Rattle.base_layout.specs.Layout.{peerBound, peers, cellSize}
+use Rattle.base_layout.specs.Layout.{peers, cellSize}
 use Rattle.base_lists.specs.Seq.{pick}
-use Rattle.base_numbers.specs.declared.Refusal.the-variants.{PeerTooLarge, TooLong, WrongClass, TidInUse, TableFull}
+use Rattle.base_numbers.specs.declared.Refusal.the-variants.{TooLong, WrongClass, TidInUse, TableFull}
 use Rattle.table_record.specs.Record.{roleOf}
 use Rattle.table_record.specs.declared.Role.the-variants.{Initiator}
 use Rattle.table_layout.specs.Table.{count, genTidOf, recordAt}
@@ -17,7 +17,7 @@ use Rattle.row_choice.specs.Rows.{requestedOf}
 use Rattle.table_tids.specs.Tids.{nextTid}
 use Rattle.row_turns.specs.declared.Given.{Given}
 use Rattle.step_commit.specs.declared.Header.the-variants.{Set}
-use Rattle.call_refusal.specs.Judging.{Test, test, lowest, planBy, unfit, tooLate}
+use Rattle.call_refusal.specs.Judging.{Test, test, lowest, planBy, peerTests}
 use Rattle.step_plan.specs.Steps.{noPart}
 use Rattle.step_plan.specs.declared.Holder.{Holder}
 use Rattle.step_plan.specs.declared.Call.{Call}
@@ -36,16 +36,17 @@ pub record UsesGenTid (t : List ℕ) (i : ℕ) : Type 0 where
 
 -- ---- the tests of its refusals; document 01's conditions are in crates/law_refusals
 
--- numbers 1 to 6
-abbrev pub entryTests : List ℕ → ℕ → ℕ → Request → List Test
-entryTests t store output q =
-    unfit t store output
-    ∷ tooLate t (q .time)
-    ∷ test PeerTooLarge (ltb peerBound (q .peer))
-    ∷ test TooLong (ltb cellSize (q .len))
+-- numbers 4 to 6
+abbrev pub ownTests : List ℕ → Request → List Test
+ownTests t q =
+    test TooLong (ltb cellSize (q .len))
     ∷ test WrongClass (ltb 2 (q .class))
     ∷ test TidInUse (tidInUse t (count t) (genTidOf t))
     ∷ []
+
+-- numbers 1 to 6
+abbrev pub entryTests : List ℕ → ℕ → ℕ → Request → List Test
+entryTests t store output q = peerTests t store output (q .time) (q .peer) ++ ownTests t q
 
 -- number 7, of the lowest free record
 unfoldable pub noneFree : Found → ℕ → Bool

@@ -5,7 +5,7 @@ ghost use Rattle.base_layout.specs.Layout.{timeBound, recordsBound, cellSize};
 ghost use Rattle.table_well_formed.specs.WellFormed.{WellFormed};
 ghost use Rattle.call_refusal.specs.Judging.{lowest};
 ghost use Rattle.step_opening.specs.Opens.{placeFor};
-ghost use Rattle.call_request.specs.Requests.{noneFree, entryTests, requestStep, freePlan, requestPlan};
+ghost use Rattle.call_request.specs.Requests.{ownTests, noneFree, entryTests, requestStep, freePlan, requestPlan};
 use base_numbers::Refusal;
 use call_refusal::Judged;
 use row_turns::Given;
@@ -28,19 +28,11 @@ pub struct Request {
     pub len: usize,
 }
 
-// The lowest of the numbers 1 to 6 that applies.
-fn judged(t: &[u8], store: usize, output: usize, q: Request) -> Judged
-    ensures { λ r. ⌜ r ≡ lowest (entryTests (now (t .entry)) store output q) ⌝ }
+// The lowest of the numbers 4 to 6 that applies, in a well-formed table.
+fn own_refusal(t: &[u8], q: Request) -> Judged
+    requires { ⌜ WellFormed (now t) ⌝ }
+    ensures { λ r. ⌜ r ≡ lowest (ownTests (now (t .entry)) q) ⌝ }
 {
-    if !table_well_formed::fits(t, store, output) {
-        return Judged::Refuse(Refusal::WrongSize);
-    }
-    if call_refusal::late(t, q.time) {
-        return Judged::Refuse(Refusal::WrongTime);
-    }
-    if base_layout::PEER_BOUND < q.peer {
-        return Judged::Refuse(Refusal::PeerTooLarge);
-    }
     if base_layout::CELL_SIZE < q.len {
         return Judged::Refuse(Refusal::TooLong);
     }
@@ -48,10 +40,20 @@ fn judged(t: &[u8], store: usize, output: usize, q: Request) -> Judged
         return Judged::Refuse(Refusal::WrongClass);
     }
     let tid = table_layout::gen_tid_of(t);
-    if table_finding::tid_in_use(t, call_refusal::records(t), tid as u64) {
+    if table_finding::tid_in_use(t, table_layout::records(t), tid as u64) {
         return Judged::Refuse(Refusal::TidInUse);
     }
     Judged::Accept
+}
+
+// The lowest of the numbers 1 to 6 that applies.
+fn judged(t: &[u8], store: usize, output: usize, q: Request) -> Judged
+    ensures { λ r. ⌜ r ≡ lowest (entryTests (now (t .entry)) store output q) ⌝ }
+{
+    match call_refusal::peer_entry(t, store, output, q.time, q.peer) {
+        Judged::Refuse(r) => Judged::Refuse(r),
+        Judged::Accept => own_refusal(t, q),
+    }
 }
 
 // Number 7: a record is wanted and none is free.
@@ -59,10 +61,7 @@ fn none_free(free: Found, class: u64) -> bool
     ensures { λ r. ⌜ r ≡ noneFree free class ⌝ }
 {
     if 0 < class {
-        match free {
-            Found::At(_) => false,
-            Found::Nothing => true,
-        }
+        !table_finding::is_found(free)
     } else {
         false
     }
@@ -129,6 +128,6 @@ pub fn planned(t: &[u8], store: usize, output: usize, q: Request) -> Plan
 {
     match judged(t, store, output, q) {
         Judged::Refuse(r) => Plan::Refuse(r),
-        Judged::Accept => with_place(t, table_finding::free(t, call_refusal::records(t)), q),
+        Judged::Accept => with_place(t, table_finding::free(t, table_layout::records(t)), q),
     }
 }

@@ -1,13 +1,13 @@
 -- The timer call (01, "Events"): "fires the due record (deadline not after now) with the earliest deadline, lowest place on ties, or says none is due".
 use Prim.Native.Nat.{ℕ}
-use mathlib.Core.List.{List, [], _∷_}
+use mathlib.Core.List.{List}
 use Rattle.table_layout.specs.Table.{count}
 use Rattle.table_finding.specs.Finding.{dueOf}
 use Rattle.table_finding.specs.declared.Found.{Found}
 use Rattle.table_finding.specs.declared.Found.the-variants as Found
 use Rattle.row_events.specs.declared.Event.the-variants as Event
 use Rattle.row_turns.specs.declared.Given.{Given}
-use Rattle.call_refusal.specs.Judging.{Test, lowest, planBy, unfit, tooLate}
+use Rattle.call_refusal.specs.Judging.{Test, lowest, planBy, firstTests}
 use Rattle.step_plan.specs.Steps.{noPart, idleStep}
 use Rattle.step_plan.specs.declared.Call.{Call}
 use Rattle.step_plan.specs.declared.Tells.the-variants as Tells
@@ -17,7 +17,7 @@ use Rattle.step_live.specs.Turning.{liveStep}
 
 -- the tests of its refusals, numbers 1 and 2; document 01's conditions are in crates/law_refusals
 abbrev pub timerTests : List ℕ → ℕ → ℕ → ℕ → List Test
-timerTests t store output time = unfit t store output ∷ tooLate t time ∷ []
+timerTests t store output time = firstTests t store output time
 
 -- a firing brings its time alone
 unfoldable pub firedGiven : ℕ → Given

@@ -3,9 +3,7 @@ ghost use mathlib.Core.Path.{_≡_};
 ghost use Prim.Native.Nat.{_≤_, _<_};
 ghost use Rattle.base_layout.specs.Layout.{timeBound};
 ghost use Rattle.table_well_formed.specs.WellFormed.{WellFormed};
-ghost use Rattle.call_refusal.specs.Judging.{lowest};
-ghost use Rattle.call_timer.specs.Timers.{timerTests, timerStep, timerPlan};
-use base_numbers::Refusal;
+ghost use Rattle.call_timer.specs.Timers.{timerStep, timerPlan};
 use call_refusal::Judged;
 use row_events::Event;
 use row_turns::Given;
@@ -15,26 +13,13 @@ use step_plan::Step;
 use step_plan::Tells;
 use table_finding::Found;
 
-// The lowest number that applies.
-fn judged(t: &[u8], store: usize, output: usize, time: u64) -> Judged
-    ensures { λ r. ⌜ r ≡ lowest (timerTests (now (t .entry)) store output time) ⌝ }
-{
-    if !table_well_formed::fits(t, store, output) {
-        return Judged::Refuse(Refusal::WrongSize);
-    }
-    if call_refusal::late(t, time) {
-        return Judged::Refuse(Refusal::WrongTime);
-    }
-    Judged::Accept
-}
-
 // The step of an accepted timer call: that of the due record, if there is one.
 fn step_for(t: &[u8], time: u64) -> Step
     requires { ⌜ WellFormed (now t) ⌝ }
     requires { ⌜ time ≤ timeBound ⌝ }
     ensures { λ r. ⌜ r ≡ timerStep (now (t .entry)) time ⌝ }
 {
-    match table_finding::due(t, call_refusal::records(t), time) {
+    match table_finding::due(t, table_layout::records(t), time) {
         Found::At(i) => {
             let none = step_plan::no_part();
             let g = Given {
@@ -60,7 +45,7 @@ fn step_for(t: &[u8], time: u64) -> Step
 pub fn planned(t: &[u8], store: usize, output: usize, time: u64) -> Plan
     ensures { λ r. ⌜ r ≡ timerPlan (now (t .entry)) store output time ⌝ }
 {
-    match judged(t, store, output, time) {
+    match call_refusal::entry(t, store, output, time) {
         Judged::Refuse(r) => Plan::Refuse(r),
         Judged::Accept => {
             let step = step_for(t, time);

@@ -52,7 +52,6 @@ use Rattle.call_plans.specs.Calls.{planFor}
 use Rattle.law_history.specs.Trace.{Entry, Promise}
 use Rattle.law_history.specs.Moves.{before}
 use Rattle.law_history.specs.Demand.{openedData, InvokeExact}
-use Rattle.law_one_turn.proofs.Arrivals.{same-class}
 use Rattle.law_data_shown.specs.Cells.{responder, CellsHold}
 use Rattle.law_ways.proofs.Ways.{Lived, Way}
 use Rattle.law_data_shown.proofs.Indicated.{shows-invoke}
@@ -165,7 +164,7 @@ module _ (peer tid class : ℕ) (up : Bool) (place : Place) where
           go : (b : Bool) → isShown0 arrives ≡ b → b ≡ false
           go true q =
               let zero : wantedOf (p .kind) .class ≡ 0 = arrival-fits _ .of-class-0 q in
-              absurd (omega (arith, big, zero, same-class (p .kind), same))
+              absurd (omega (arith, big, zero, same))
           go false q = refl
 
       arrived-exact : Left (e .lent) (openingStep (before e) arrives arriver (openedGiven time p) Kept (openedCall p)) (e .done)

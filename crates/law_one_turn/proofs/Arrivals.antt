@@ -14,8 +14,6 @@ use Rattle.table_record.specs.declared.Role.{Role}
 use Rattle.table_record.specs.declared.Role.the-variants.{Responder}
 use Rattle.table_record.specs.declared.Record.{Record}
 use Rattle.table_layout.specs.declared.Settings.{Settings}
-use Rattle.codec_pdu.specs.declared.Kind.{Kind}
-use Rattle.codec_pdu.specs.declared.Kind.the-variants as Kind
 use Rattle.codec_pdu.specs.declared.Pdu.{Pdu}
 use Rattle.row_events.specs.declared.Opening.{Opening}
 use Rattle.row_events.specs.declared.Opening.the-variants as Opening
@@ -30,7 +28,7 @@ use Rattle.row_turns.specs.Turns.{movedTo, recordAfter, turnOf, openingTurn}
 use Rattle.row_turns.specs.declared.Given.{Given}
 use Rattle.step_shown.specs.Shows.{shownOf}
 use Rattle.step_shown.specs.declared.Context.{Context}
-use Rattle.call_receive.specs.Receives.{wishOf, arrivalOpening}
+use Rattle.call_receive.specs.Receives.{arrivalOpening}
 use Rattle.law_plans_sound.proofs.Openings.{openedRole}
 use Rattle.law_plans_sound.proofs.Receives.{picked}
 use Rattle.law_counting.specs.Counting.{none, ofSend}
@@ -130,22 +128,8 @@ either class Opening.ToVerify1 e = opens-one class Opening.ToVerify1 e refl (λ 
 either class Opening.ToVerify2 e = opens-one class Opening.ToVerify2 e refl (λ r g s rows. omega arith)
 either class Opening.UnknownTidve e = inl (quiet class Opening.UnknownTidve refl (λ r. refl) refl refl refl)
 
--- the class that is judged is the class that is shown
-pub same-class : (k : Kind) → wantedOf k .class ≡ wishOf k .class
-unfolding wantedOf wishOf
-same-class (Kind.Invoke gtr ttr rid version n up class) = refl
-same-class (Kind.Result gtr ttr rid) = refl
-same-class (Kind.Ack tve rid) = refl
-same-class (Kind.Abort t r) = refl
-same-class (Kind.SegInvoke gtr ttr rid p) = refl
-same-class (Kind.SegResult gtr ttr rid p) = refl
-same-class (Kind.Nack rid n l) = refl
-same-class (Kind.Wrong d) = refl
-same-class (Kind.Refused r) = refl
-
 -- a PDU without a live record
 pub arrival : (t : List ℕ) (peer tid : ℕ) (s : List ℕ) (p : Pdu)
-    → CountsNone (wishOf (p .kind) .class) (arrivalOpening t peer tid s p) ⊎ OpensRecord (wishOf (p .kind) .class) (arrivalOpening t peer tid s p)
+    → CountsNone (wantedOf (p .kind) .class) (arrivalOpening t peer tid s p) ⊎ OpensRecord (wantedOf (p .kind) .class) (arrivalOpening t peer tid s p)
 unfolding arrivalOpening arrivedOf
-arrival t peer tid s p =
-    rw (sym (same-class (p .kind))) (either (wantedOf (p .kind) .class) (arrivalOpening t peer tid s p) (arrives-as _))
+arrival t peer tid s p = either (wantedOf (p .kind) .class) (arrivalOpening t peer tid s p) (arrives-as _)

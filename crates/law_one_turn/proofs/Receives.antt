@@ -16,13 +16,13 @@ use Rattle.law_places.proofs.Places.{free-place}
 use Rattle.row_events.specs.declared.Opening.{Opening}
 use Rattle.row_columns.specs.declared.Next.the-variants.{Ends}
 use Rattle.row_entries.specs.Acts.{openingAct}
-use Rattle.step_arrivals.specs.Arrivals.{tidOf, nameOf}
+use Rattle.step_arrivals.specs.Arrivals.{tidOf, nameOf, wantedOf}
 use Rattle.step_commit.specs.declared.Header.the-variants.{Kept}
 use Rattle.step_plan.specs.Steps as Steps
 use Rattle.step_plan.specs.declared.Holder.{Holder}
 use Rattle.step_plan.specs.declared.Step.{Step}
 use Rattle.step_opening.specs.Opens.{placeFor, openedTurn, openingStep}
-use Rattle.call_receive.specs.Receives.{wishOf, arriverOf, openedGiven, openedCall, openedStep, arrivalOpening, unmatchedStep}
+use Rattle.call_receive.specs.Receives.{arriverOf, openedGiven, openedCall, openedStep, arrivalOpening, unmatchedStep}
 use Rattle.call_receive.proofs.Accepted.{Accepted}
 use Rattle.call_receive.proofs.Kept.{kept-small}
 use Rattle.call_receive.proofs.Ways.{Unmatched, Opens, leaves-or-opens}
@@ -100,6 +100,6 @@ module _ (l : Lent) (time peer : ℕ) (f : Fits l) (step : Step) (a : Accepted (
     unfolding unmatchedStep openedStep arriverOf
     unmatched-move ok = go (arrival t peer (u .tid) (l .given) p)
       where
-        go : CountsNone (wishOf (p .kind) .class) opening ⊎ OpensRecord (wishOf (p .kind) .class) opening → Quiet (entryOf call l itsStep) ⊎ Opened (entryOf call l itsStep)
+        go : CountsNone (wantedOf (p .kind) .class) opening ⊎ OpensRecord (wantedOf (p .kind) .class) opening → Quiet (entryOf call l itsStep) ⊎ Opened (entryOf call l itsStep)
         go (inl q) = inl (nothing-opened ok q)
         go (inr o) = inr (record-opened ok o (leaves-or-opens t peer (u .tid) (l .given) p))

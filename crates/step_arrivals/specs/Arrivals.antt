@@ -106,11 +106,11 @@ isTidve (Refused r) tid = false
 
 -- nothing is asked for
 abbrev pub noWant : Wanted
-noWant = record { class = 0; «wrong_version» = false; «ttr_clear» = false }
+noWant = record { class = 0; up = false; «wrong_version» = false; «ttr_clear» = false }
 
--- 01: "version not 0", "TTR clear", and the class, of an Invoke
+-- 01: "version not 0", "TTR clear", the class and U/P, of an Invoke
 unfoldable pub wantedOf : Kind → Wanted
-wantedOf (Invoke gtr ttr rid version n u class) = record { class = class; «wrong_version» = ltb 0 version; «ttr_clear» = not ttr }
+wantedOf (Invoke gtr ttr rid version n up class) = record { class = class; up = up; «wrong_version» = ltb 0 version; «ttr_clear» = not ttr }
 wantedOf (Result gtr ttr rid) = noWant
 wantedOf (Ack tve rid) = noWant
 wantedOf (Abort t r) = noWant

@@ -30,10 +30,11 @@ pub struct Info {
 }
 
 // What an Invoke asks for.
-struct Wanted {
-    class: u8,
-    wrong_version: bool,
-    ttr_clear: bool,
+pub struct Wanted {
+    pub class: u8,
+    pub up: bool,
+    pub wrong_version: bool,
+    pub ttr_clear: bool,
 }
 
 fn wide(x: u8) -> u16
@@ -198,23 +199,26 @@ fn no_want() -> Wanted
 {
     Wanted {
         class: 0,
+        up: false,
         wrong_version: false,
         ttr_clear: false,
     }
 }
 
 // What an Invoke asks for; nothing of any other PDU.
-fn wanted_by(kind: Kind) -> Wanted
+pub fn wanted_by(kind: Kind) -> Wanted
     ensures { λ r. ⌜ r ≡ wantedOf kind ⌝ }
 {
     match kind {
         Kind::Invoke {
             ttr,
             version,
+            up,
             class,
             ..
         } => Wanted {
             class: class,
+            up: up,
             wrong_version: 0 < version,
             ttr_clear: !ttr,
         },

@@ -4,6 +4,7 @@ use mathlib.Core.List.{List}
 use Rattle.table_record.specs.Record.{roleOf, classOf}
 use Rattle.table_record.specs.declared.Record.{Record}
 use Rattle.table_layout.specs.Table.{settingsOf, rowsOf, cachedOf, recordAt}
+use Rattle.table_layout.specs.declared.Settings.{Settings}
 use Rattle.row_events.specs.declared.Event.{Event}
 use Rattle.row_events.specs.declared.Row.{Row}
 use Rattle.row_choice.specs.Rows.{rowOf}
@@ -17,9 +18,13 @@ use Rattle.step_plan.specs.declared.Holder.{Holder}
 use Rattle.step_plan.specs.declared.Call.{Call}
 use Rattle.step_plan.specs.declared.Step.{Step}
 
--- the row that an event meets in the record at a place, by its state and its conditions
+-- the row that an event meets in a record, by its state and its conditions
+abbrev pub rowIn : Record → Settings → Event → Row
+rowIn r s event = rowOf (r .state) event (conditionsOf s r)
+
+-- the row that an event meets in the record at a place
 unfoldable pub rowAt : List ℕ → ℕ → Event → Row
-rowAt t place event = rowOf (recordAt t place .state) event (conditionsOf (settingsOf t) (recordAt t place))
+rowAt t place event = rowIn (recordAt t place) (settingsOf t) event
 
 -- the record's name, class and U/P; the message that lies in its cell
 unfoldable pub holderOf : Record → ℕ → Holder

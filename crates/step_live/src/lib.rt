@@ -4,14 +4,24 @@ ghost use Prim.Native.Nat.{_+_, _*_, _≤_, _<_};
 ghost use lib.ListN.{length};
 ghost use Rattle.base_layout.specs.Layout.{headerSize, recordSize, timeBound, tidBound, recordsBound};
 ghost use Rattle.table_layout.specs.Table.{recordAt};
-ghost use Rattle.step_live.specs.Turning.{rowAt, holderOf, liveStep};
+ghost use Rattle.step_live.specs.Turning.{rowIn, rowAt, holderOf, liveStep};
 use row_events::Event;
 use row_events::Row;
 use row_turns::Given;
 use step_plan::Call;
 use step_plan::Holder;
 use step_plan::Step;
+use table_layout::Settings;
 use table_record::Record;
+
+// The row that an event meets in a record.
+fn row_in(r: Record, s: Settings, event: Event) -> Row
+    ensures { λ row. ⌜ row ≡ rowIn r s event ⌝ }
+{
+    let state = r.state;
+    let c = row_conditions::conditions_of(s, r);
+    row_choice::row_of(state, event, c)
+}
 
 // The row that an event meets in the record at a place.
 pub fn row_at(t: &[u8], place: usize, event: Event) -> Row
@@ -20,9 +30,7 @@ pub fn row_at(t: &[u8], place: usize, event: Event) -> Row
 {
     let r = table_layout::record_at(t, place);
     let s = table_layout::settings_of(t);
-    let state = r.state;
-    let c = row_conditions::conditions_of(s, r);
-    row_choice::row_of(state, event, c)
+    row_in(r, s, event)
 }
 
 fn holder_of(r: Record, place: usize) -> Holder
@@ -50,8 +58,8 @@ pub fn live_step(t: &[u8], place: usize, event: Event, g: Given, c: Call) -> Ste
     ensures { λ r. ⌜ r ≡ liveStep (now (t .entry)) place event g c ⌝ }
 {
     let r = table_layout::record_at(t, place);
-    let row = row_at(t, place, event);
     let s = table_layout::settings_of(t);
+    let row = row_in(r, s, event);
     let intervals = table_layout::rows_of(t);
     let turn = row_turns::row_turn(row, r, g, s, intervals);
     let h = holder_of(r, place);

@@ -5,7 +5,7 @@ ghost use lib.ListN.{length};
 ghost use Rattle.base_layout.specs.Layout.{headerSize, recordSize};
 ghost use Rattle.table_record.specs.Record.{stateNumber};
 ghost use Rattle.table_layout.specs.Table.{recordAt};
-ghost use Rattle.table_finding.specs.Finding.{isFree, hasRole, isNamed, usesTid, isSought, found, namedOf, freeOf, tidInUse, isDue, Within, earlierOf, dueOf};
+ghost use Rattle.table_finding.specs.Finding.{isFound, isFree, hasRole, isNamed, usesTid, isSought, found, namedOf, freeOf, tidInUse, isDue, Within, earlierOf, dueOf};
 use base_layout::HEADER_SIZE;
 use base_layout::RECORD_SIZE;
 use table_record::Role;
@@ -14,6 +14,16 @@ use table_record::Role;
 pub enum Found {
     At(usize),
     Nothing,
+}
+
+// Whether something was found.
+pub fn is_found(found: Found) -> bool
+    ensures { λ r. ⌜ r ≡ isFound found ⌝ }
+{
+    match found {
+        Found::At(_) => true,
+        Found::Nothing => false,
+    }
 }
 
 // What is looked for: a live record by its name, a free record, a live initiator record by its TID.
@@ -160,11 +170,7 @@ pub fn tid_in_use(t: &[u8], n: usize, tid: u64) -> bool
     requires { ⌜ headerSize + n * recordSize ≤ length (now t) ⌝ }
     ensures { λ r. ⌜ r ≡ tidInUse (now (t .entry)) n tid ⌝ }
 {
-    let r = search(t, n, Sought::WithTid(tid));
-    match r {
-        Found::At(_) => true,
-        Found::Nothing => false,
-    }
+    is_found(search(t, n, Sought::WithTid(tid)))
 }
 
 fn is_due(t: &[u8], i: usize, time: u64) -> bool

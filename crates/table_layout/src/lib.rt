@@ -3,7 +3,7 @@ ghost use mathlib.Core.Path.{_≡_};
 ghost use Prim.Native.Nat.{_+_, _*_, _≤_, _<_};
 ghost use lib.ListN.{length};
 ghost use Rattle.base_layout.specs.Layout.{headerSize, recordSize, peers};
-ghost use Rattle.table_layout.specs.Table.{clockOf, genTidOf, settingsOf, fours, rowsOf, cachedOf, recordAt, putRecord, clearRecord, putClock, putGenTid, putCached};
+ghost use Rattle.table_layout.specs.Table.{count, clockOf, genTidOf, settingsOf, fours, rowsOf, cachedOf, recordAt, putRecord, clearRecord, putClock, putGenTid, putCached};
 use base_layout::HEADER_SIZE;
 use base_layout::RECORD_SIZE;
 use table_record::Record;
@@ -14,6 +14,14 @@ pub struct Settings {
     pub aec_max: u8,
     pub a: u32,
     pub w: u32,
+}
+
+// How many records a table has.
+pub fn records(t: &[u8]) -> usize
+    requires { ⌜ headerSize ≤ length (now t) ⌝ }
+    ensures { λ r. ⌜ r ≡ count (now (t .entry)) ⌝ }
+{
+    (t.len() - HEADER_SIZE) / RECORD_SIZE
 }
 
 pub fn clock_of(t: &[u8]) -> u64

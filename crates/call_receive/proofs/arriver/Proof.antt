@@ -6,4 +6,4 @@ use Rattle.call_receive.proofs.arriver.Tie as tie
 
 pub arriver-spec : {M : Type 1} → statement M
 unfolding arriverOf
-arriver-spec = tie.close (tie.spec (λ c κs. search needs) (λ c. simp (c .wish-of .ensures)))
+arriver-spec = tie.close (tie.spec (λ c κs. search needs) (λ c. simp (c .wanted-by .ensures)))

@@ -19,4 +19,4 @@ unmatched-spec =
     (λ c κs. search needs) (λ c κs. search needs) (λ c κs. search needs) (λ c κs. search needs) (λ c κs. search needs)
     (λ c κs. search needs) (λ c κs. search needs) (λ c κs. search needs) (λ c κs. search needs) (λ c κs. search needs)
     (λ c κs. search needs) opened-by-requires
-    (λ c. simp (c .opened-by .ensures, c .before .arriver .ensures, c .before .before .place-for .ensures, c .before .before .before .opening-of .ensures, c .before .before .before .before .arrived .ensures, c .before .before .before .before .before .is-valid .ensures, c .before .before .before .before .before .before .tid-test .ensures, c .before .before .before .before .before .before .before .cached-of .ensures, c .before .before .before .before .before .before .before .before .size .ensures .0, c .before .before .before .before .before .before .before .before .before .is-full .ensures, c .before .before .before .before .before .before .before .before .before .before .free .ensures, c .before .before .before .before .before .before .before .before .before .before .before .records .ensures)))
+    (λ c. simp (c .opened-by .ensures, c .before .arriver .ensures, c .before .before .place-for .ensures, c .before .before .before .opening-of .ensures, c .before .before .before .before .arrived .ensures, c .before .before .before .before .before .is-valid .ensures, c .before .before .before .before .before .before .tid-test .ensures, c .before .before .before .before .before .before .before .cached-of .ensures, c .before .before .before .before .before .before .before .before .size .ensures .0, c .before .before .before .before .before .before .before .before .before .is-found .ensures, c .before .before .before .before .before .before .before .before .before .before .free .ensures, c .before .before .before .before .before .before .before .before .before .before .before .records .ensures)))

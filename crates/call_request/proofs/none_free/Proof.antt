@@ -1,3 +1,4 @@
+-- `call_request::none_free` meets its contract: the way to each return picks the case of the definition. Assumes nothing.
 use borrow.Author.Tests.{lt-ltb, le-ltb}
 use Rattle.call_request.specs.Requests.{noneFree}
 use borrow.Author.Needs.{needs}
@@ -8,7 +9,6 @@ pub none-free-spec : {M : Type 1} → statement M
 unfolding noneFree
 none-free-spec =
     tie.close (tie.spec
-    (λ c. search needs) (λ c. search needs)
-    (λ c. simp (c .enum-told .given .1, lt-ltb _ _ (c .before .before .if1 .taken)))
-    (λ c. simp (c .enum-told2 .given .1, lt-ltb _ _ (c .before .before .if1 .taken)))
+    (λ c κs. search needs)
+    (λ c. simp (c .is-found .ensures, lt-ltb _ _ (c .before .if1 .taken)))
     (λ c. simp (le-ltb _ _ (c .if1 .left))))

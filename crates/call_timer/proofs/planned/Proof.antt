@@ -8,7 +8,7 @@ use Rattle.call_timer.proofs.planned.Tie as tie
 
 step-for-requires : tie.Need-step-for-requires
 step-for-requires c κs =
-    let may = entered _ _ _ _ _ (sym (c .before .before .judged .ensures) ∙ c .enum-told .given .1) in
+    let may = entered _ _ _ _ _ (sym (c .before .before .entry .ensures) ∙ c .enum-told .given .1) in
     (may .fitting .formed, may .bounded)
 
 pub planned-spec : {M : Type 1} → statement M
@@ -16,5 +16,5 @@ unfolding timerPlan
 planned-spec =
     tie.close (tie.spec
     (λ c κs. search needs) (λ c. search needs) (λ c. search needs) step-for-requires
-    (λ c. simp (c .before .r .given .1, ← (c .before .before .before .judged .ensures)))
-    (λ c. simp (c .step-for .ensures, c .before .enum-told .given .1, ← (c .before .before .before .judged .ensures))))
+    (λ c. simp (c .before .r .given .1, ← (c .before .before .before .entry .ensures)))
+    (λ c. simp (c .step-for .ensures, c .before .enum-told .given .1, ← (c .before .before .before .entry .ensures))))

@@ -1,13 +1,13 @@
 -- `step_live::live_step` meets its contract: the way to each return picks the case of the definition. Assumes nothing.
 use native.Mathlib.Omega.{arith}
-use Rattle.step_live.specs.Turning.{holderOf, liveStep, liveTurn}
+use Rattle.step_live.specs.Turning.{rowAt, holderOf, liveStep, liveTurn}
 use borrow.Author.Needs.{needs}
 use Rattle.step_live.proofs.live_step.Statement.{statement}
 use Rattle.step_live.proofs.live_step.Tie as tie
 
 returns : tie.Need-returns
-unfolding liveStep liveTurn
-returns c = simp (c .step-of .ensures, c .before .turn-changes .ensures, c .before .before .cached-of .ensures, c .before .before .before .size .ensures .0, c .before .before .before .before .holder-of .ensures, c .before .before .before .before .before .row-turn .ensures, c .before .before .before .before .before .before .rows-of .ensures, c .before .before .before .before .before .before .before .settings-of .ensures, c .before .before .before .before .before .before .before .before .row-at .ensures, c .before .before .before .before .before .before .before .before .before .record-at .ensures)
+unfolding liveStep liveTurn rowAt
+returns c = simp (c .step-of .ensures, c .before .turn-changes .ensures, c .before .before .cached-of .ensures, c .before .before .before .size .ensures .0, c .before .before .before .before .holder-of .ensures, c .before .before .before .before .before .row-turn .ensures, c .before .before .before .before .before .before .rows-of .ensures, c .before .before .before .before .before .before .before .row-in .ensures, c .before .before .before .before .before .before .before .before .settings-of .ensures, c .before .before .before .before .before .before .before .before .before .record-at .ensures)
 
 pub live-step-spec : {M : Type 1} → statement M
 unfolding holderOf

@@ -8,5 +8,5 @@ pub row-at-spec : {M : Type 1} → statement M
 unfolding rowAt
 row-at-spec =
     tie.close (tie.spec
-    (λ c κs. search needs) (λ c κs. search needs) (λ c κs. search needs) (λ c κs. search needs)
-    (λ c. simp (c .row-of .ensures, c .before .conditions-of .ensures, c .before .before .settings-of .ensures, c .before .before .before .record-at .ensures)))
+    (λ c κs. search needs) (λ c κs. search needs) (λ c κs. search needs)
+    (λ c. simp (c .row-in .ensures, c .before .settings-of .ensures, c .before .before .record-at .ensures)))

@@ -8,6 +8,5 @@ pub tid-in-use-spec : {M : Type 1} → statement M
 unfolding tidInUse
 tid-in-use-spec =
     tie.close (tie.spec
-    (λ c κs. search needs) (λ c. search needs) (λ c. search needs)
-    (λ c. simp (c .enum-told .given .1, ← (c .before .before .search .ensures)))
-    (λ c. simp (c .enum-told2 .given .1, ← (c .before .before .search .ensures))))
+    (λ c κs. search needs) (λ c κs. search needs)
+    (λ c. simp (c .is-found .ensures, c .before .search .ensures)))

@@ -1,15 +1,15 @@
--- `call_timer::judged` meets its contract: the way to each return picks the case of the definition. Assumes nothing.
-use Rattle.call_refusal.specs.Judging.{lowest}
-use Rattle.call_refusal.proofs.Fits.{header-there}
+-- `call_refusal::entry` meets its contract: the way to each return picks the case of the definition. Assumes nothing.
 use borrow.Author.Tests.{not-false}
 use mathlib.Core.Path.{sym, _∙_}
+use Rattle.call_refusal.specs.Judging.{lowest}
+use Rattle.call_refusal.proofs.Fits.{header-there}
 use borrow.Author.Needs.{needs}
-use Rattle.call_timer.proofs.judged.Statement.{statement}
-use Rattle.call_timer.proofs.judged.Tie as tie
+use Rattle.call_refusal.proofs.entry.Statement.{statement}
+use Rattle.call_refusal.proofs.entry.Tie as tie
 
-pub judged-spec : {M : Type 1} → statement M
+pub entry-spec : {M : Type 1} → statement M
 unfolding lowest
-judged-spec =
+entry-spec =
     tie.close (tie.spec
     (λ c κs. search needs)
     (λ c. simp (c .if1 .taken, ← (c .before .fits2 .ensures)))
