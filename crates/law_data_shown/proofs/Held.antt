@@ -46,14 +46,17 @@ use Rattle.call_receive.specs.Receives.{userPart, keptPart, arriverOf, openedGi
 use Rattle.call_receive.proofs.Ways.{Unmatched}
 use Rattle.step_outcome.specs.Carry.{Done, outcome}
 use Rattle.law_steps_sound.specs.Sound.{Fits}
-use Rattle.call_plans.specs.Calls.{planFor, timeOf}
+use Rattle.call_plans.specs.Calls.{Call, planFor, timeOf}
+use Rattle.law_history.specs.Tally.{lives}
+use Rattle.law_history.specs.Changed.{ByInvoke}
+use Rattle.step_arrivals.specs.declared.Name.the-variants.{Of}
 use Rattle.law_history.specs.Trace.{Entry, Promise}
 use Rattle.law_history.specs.Moves.{before, after}
-use Rattle.law_history.specs.Demand.{userData, openedData}
-use Rattle.law_data_shown.specs.Cells.{inTidokWait, responder, CellHolds, CellsHold}
+use Rattle.law_history.specs.Demand.{userData}
+use Rattle.law_data_shown.specs.Cells.{inTidokWait, responder, Awaits, CellHolds, CellsHold}
 use Rattle.law_ways.proofs.Ways.{Way}
 use Rattle.law_data_shown.proofs.Effects.{Left, Effect, done-is, effect}
-use Rattle.law_data_shown.proofs.Living.{called-lives, data-stays}
+use Rattle.law_data_shown.proofs.Living.{called-lives, opener-stays, opener-is}
 use Rattle.law_data_shown.proofs.Verifying.{StillWaits, live-stays, isToVerify, none-writes-none, Verifies, opens-waiting}
 use Rattle.law_data_shown.proofs.Openings.{requested-one, opening-leaves, opening-puts, arrival-fits, opening, holder, opened-now}
 
@@ -86,6 +89,18 @@ same-waits r after e w = record {
   same-len = ap (λ (x : Record). x .len) e;
   same-peer = ap (λ (x : Record). x .peer) e;
   same-tid = ap (λ (x : Record). x .tid) e;
+  same-state = ap (λ (x : Record). x .state) e;
+  same-ack = ap (λ (x : Record). x .«user_ack») e;
+}
+
+-- and is still that of its Invoke
+still-by : (o : Entry) (r after : Record) (cell : Bool) → StillWaits r after cell → ByInvoke o r → ByInvoke o after
+still-by o r after cell s b = record {
+  time = b .time;
+  received = b .received ∙ ap (Call.Receive (b .time)) (sym (s .same-peer));
+  role = ap roleOf (s .same-state) ∙ b .role;
+  names = b .names ∙ ap (Of Responder) (sym (s .same-tid));
+  invoke = rw (s .same-state, s .same-ack) (b .invoke);
 }
 
 module _ (e : Entry) (h : List Entry) (was : CellsHold (before e) (e .lent .store) h) where
@@ -99,8 +114,14 @@ module _ (e : Entry) (h : List Entry) (was : CellsHold (before e) (e .lent .stor
   still-holds : (i : ℕ) (cell : Bool) → i < count (before e) → StillWaits (recordAt (before e) i) (recordAt (after e) i) cell → SameCell i → Holds i
   still-holds i cell inside s same w =
       let r : Record = recordAt (before e) i in
-      let stays : openedData (e ∷ h) (responder (r .peer) (r .tid)) ≡ openedData h (responder (r .peer) (r .tid)) = data-stays e h (r .peer) (r .tid) (called-lives (before e) (r .peer) (r .tid) i inside (waits-called r (s .waited))) in
-      rw (s .same-len, s .same-peer, s .same-tid) (same ∙ (was i inside (s .waited) ∙ sym stays))
+      let a : Awaits (before e) (e .lent .store) h i = was i inside (s .waited) in
+      let lived : lives (before e) (responder (r .peer) (r .tid)) ≡ true = called-lives (before e) (r .peer) (r .tid) i inside (waits-called r (s .waited)) in
+      record {
+        opener = a .opener;
+        opened = rw (s .same-peer, s .same-tid) (opener-stays e (a .opener) h (r .peer) (r .tid) lived (a .opened));
+        by = still-by (a .opener) r (recordAt (after e) i) cell s (a .by);
+        holds = rw (s .same-len) (same ∙ a .holds);
+      }
 
   -- a record that is as it was
   same-holds : (i : ℕ) → i < count (before e) → recordAt (after e) i ≡ recordAt (before e) i → (inTidokWait (recordAt (before e) i .state) ≡ true → SameCell i) → Holds i
@@ -131,8 +152,7 @@ module _ (e : Entry) (h : List Entry) (was : CellsHold (before e) (e .lent .stor
     unfolding liveStep stepOf turnChanges changeOf
     lived-holds w = go (eqb (stateNumber (turn .after .state)) 0) refl
       where
-        go : (b : Bool) → eqb (stateNumber (turn .after .state)) 0 ≡ b
-            → part (e .done .store) (place * cellSize) (recordAt (after e) place .len) ≡ openedData (e ∷ h) (responder (recordAt (after e) place .peer) (recordAt (after e) place .tid))
+        go : (b : Bool) → eqb (stateNumber (turn .after .state)) 0 ≡ b → Awaits (after e) (e .done .store) (e ∷ h) place
         go true q = absurd (waits-live (recordAt (after e) place .state) w (left .freed (rw q refl)))
         go false q =
             let there : recordAt (after e) place ≡ turn .after = left .put-is (turn .after) (rw q refl) in
@@ -148,8 +168,7 @@ module _ (e : Entry) (h : List Entry) (was : CellsHold (before e) (e .lent .stor
     unfolding openingStep stepOf openingChanges openedTurn
     opening-holds verified w = go (eqb (stateNumber (opened .after .state)) 0) refl
       where
-        go : (b : Bool) → eqb (stateNumber (opened .after .state)) 0 ≡ b
-            → part (e .done .store) (holder .place * cellSize) (recordAt (after e) (holder .place) .len) ≡ openedData (e ∷ h) (responder (recordAt (after e) (holder .place) .peer) (recordAt (after e) (holder .place) .tid))
+        go : (b : Bool) → eqb (stateNumber (opened .after .state)) 0 ≡ b → Awaits (after e) (e .done .store) (e ∷ h) (holder .place)
         go true q =
             same-holds (holder .place) (left .inside) (left .untouched (opening-leaves (before e) opening holder g genTid c q))
             (λ waited. unwritten-cell (holder .place) (left .unwritten (none-writes-none _ g _ _ opening q))) w
@@ -168,15 +187,15 @@ module _ (e : Entry) (h : List Entry) (was : CellsHold (before e) (e .lent .stor
       (λ v live. true-false (sym (v .to-verify) ∙ requested-not (q .class % 256)))
 
   -- an Invoke to be verified
-  module _ (time peer : ℕ) (u : Unmatched (before e) time peer (e .lent .given)) where
+  module _ (time peer : ℕ) (called : e .call ≡ Call.Receive time peer) (u : Unmatched (before e) time peer (e .lent .given)) where
     abbrev p : Pdu
     p = pduOf (e .lent .given)
 
     abbrev arrives : Opening
-    arrives = opening e time peer u
+    arrives = opening e time peer called u
 
     abbrev arriver : Holder
-    arriver = holder e time peer u
+    arriver = holder e time peer called u
 
     -- its data isn't too long to be kept
     kept-whole : isToVerify arrives ≡ true → keptPart p ≡ userPart p
@@ -192,16 +211,21 @@ module _ (e : Entry) (h : List Entry) (was : CellsHold (before e) (e .lent .stor
         verified : Verifies arrives (openedTurn (before e) arrives arriver (openedGiven time p)) (openedGiven time p .len)
             → 1 ≤ stateNumber (openedTurn (before e) arrives arriver (openedGiven time p) .after .state) → Holds (arriver .place)
         verified v live w =
-            let o = opened-now e time peer u left live in
+            let o = opened-now e time peer called u left live in
             let whole : part (e .lent .given) (keptPart p .start) (keptPart p .len) ≡ userData (e .lent .given) = ap (λ (q : Part). part (e .lent .given) (q .start) (q .len)) (kept-whole (v .to-verify)) in
-            rw (o .there, v .same-len, o .peer-is, o .tid-is) (left .written (v .written) ∙ (whole ∙ sym (o .data-is h)))
+            record {
+              opener = e;
+              opened = rw (o .there, o .peer-is, o .tid-is) (opener-is e h peer (u .tid) (o .opens-is));
+              by = rw (o .there) (o .by);
+              holds = rw (o .there, v .same-len) (left .written (v .written) ∙ whole);
+            }
 
   at-place : (step : Step) → Way (e .call) (e .lent) step → Left (e .lent) step (e .done) → Holds (step .changes .place)
   unfolding idleStep idleChanges liveStep stepOf turnChanges openingStep openingChanges requestStep requester unmatchedStep openedStep
   at-place step (inl i) left = rw (i .step-is) (idle-holds (timeOf (e .call)) (rw (i .step-is) at left))
   at-place step (inr (inl k)) left = rw (k .step-is) (lived-holds (k .place) (k .event) (k .given) (k .asked) (rw (k .step-is) at left))
   at-place step (inr (inr (inl q))) left = rw (q .accepted .step-is) (requested-holds _ _ (rw (q .accepted .step-is) at left))
-  at-place step (inr (inr (inr a))) left = rw (a .step-is) (arrived-holds (a .time) (a .peer) (a .unmatched) (rw (a .step-is) at left))
+  at-place step (inr (inr (inr a))) left = rw (a .step-is) (arrived-holds (a .time) (a .peer) (a .call-is) (a .unmatched) (rw (a .step-is) at left))
 
   accepted-holds : (step : Step) → Effect e step → CellsHold (after e) (e .done .store) (e ∷ h)
   accepted-holds step f i inside = go (equal-or i (step .changes .place))

@@ -40,7 +40,7 @@ result-kind (Kind.Nack rid n l) e = true-false (sym e)
 result-kind (Kind.Wrong d) e = true-false (sym e)
 result-kind (Kind.Refused r) e = true-false (sym e)
 
--- the peer, TID and class in what is shown
+-- the peer, TID, class and U/P in what is shown
 abbrev peerIn : Shown → ℕ
 peerIn Shown.Nothing = 0
 peerIn (Shown.Invoke peer tid class up place) = peer
@@ -62,6 +62,13 @@ classIn (Shown.Confirm role peer tid place) = 0
 classIn (Shown.Result peer tid place) = 0
 classIn (Shown.Abort role peer tid type reason) = 0
 
+abbrev upIn : Shown → Bool
+upIn Shown.Nothing = false
+upIn (Shown.Invoke peer tid class up place) = up
+upIn (Shown.Confirm role peer tid place) = false
+upIn (Shown.Result peer tid place) = false
+upIn (Shown.Abort role peer tid type reason) = false
+
 abbrev invokeShown : Shown → Bool
 invokeShown s = byKind false true false false false s
 
@@ -80,19 +87,20 @@ shows-result Indication.Result c peer tid place e = record { peer-is = ap peerIn
 shows-result (Indication.Abort type reason) c peer tid place e = true-false (sym (ap resultShown e))
 
 -- an Invoke that is shown is its context's
-pub record ShowsInvoke (i : Indication) (c : Context) (peer tid class : ℕ) (place : Place) : Type 0 where
+pub record ShowsInvoke (i : Indication) (c : Context) (peer tid class : ℕ) (up : Bool) (place : Place) : Type 0 where
   pub verified : Bool
   pub indicated : i ≡ Indication.Invoke verified
   pub peer-is : c .peer ≡ peer
   pub tid-is : c .tid ≡ tid
   pub class-is : c .class ≡ class
+  pub up-is : c .up ≡ up
   pub place-is : invokePlace verified c ≡ place
 
-pub shows-invoke : (i : Indication) (c : Context) (peer tid class : ℕ) (up : Bool) (place : Place) → shownOf i c ≡ Shown.Invoke peer tid class up place → ShowsInvoke i c peer tid class place
+pub shows-invoke : (i : Indication) (c : Context) (peer tid class : ℕ) (up : Bool) (place : Place) → shownOf i c ≡ Shown.Invoke peer tid class up place → ShowsInvoke i c peer tid class up place
 unfolding shownOf placeOf
 shows-invoke Indication.Nothing c peer tid class up place e = true-false (sym (ap invokeShown e))
 shows-invoke (Indication.Invoke v) c peer tid class up place e =
-    record { verified = v; indicated = refl; peer-is = ap peerIn e; tid-is = ap tidIn e; class-is = ap classIn e; place-is = ap placeOf e }
+    record { verified = v; indicated = refl; peer-is = ap peerIn e; tid-is = ap tidIn e; class-is = ap classIn e; up-is = ap upIn e; place-is = ap placeOf e }
 shows-invoke (Indication.Confirm acked) c peer tid class up place e = true-false (sym (ap invokeShown e))
 shows-invoke Indication.Result c peer tid class up place e = true-false (sym (ap invokeShown e))
 shows-invoke (Indication.Abort type reason) c peer tid class up place e = true-false (sym (ap invokeShown e))

@@ -3,6 +3,7 @@ use Prim.Native.Nat.{ℕ, _<_}
 use mathlib.Core.Path.{_≡_, refl}
 use mathlib.Core.Bool.{true, false}
 use mathlib.Core.List.{List, _∷_}
+use mathlib.Core.Logic.{inl, inr}
 use Rattle.table_record.specs.declared.Role.the-variants.{Responder}
 use Rattle.table_layout.specs.Table.{count, recordAt}
 use Rattle.table_finding.specs.Finding.{isFound, namedOf}
@@ -12,7 +13,7 @@ use Rattle.table_finding.proofs.Tests.{Called}
 use Rattle.table_finding.proofs.Searches.{NoneOf, named-found, named-nothing}
 use Rattle.law_history.specs.Trace.{Entry}
 use Rattle.law_history.specs.Tally.{lives, opens}
-use Rattle.law_history.specs.Demand.{userData, openedData}
+use Rattle.law_history.specs.Demand.{OpenedBy}
 use Rattle.law_data_shown.specs.Cells.{responder}
 
 module _ (t : List ℕ) (peer tid : ℕ) where
@@ -34,13 +35,22 @@ module _ (t : List ℕ) (peer tid : ℕ) where
           absurd (none j (l .below) (l .is-so))
       go Found.Nothing e = refl
 
-module _ (e : Entry) (h : List Entry) (peer tid : ℕ) where
-  -- the data of a name that lived before stays that of its opening
-  pub data-stays : lives (e .lent .table) (responder peer tid) ≡ true → openedData (e ∷ h) (responder peer tid) ≡ openedData h (responder peer tid)
-  unfolding openedData opens
-  data-stays lived = rw lived refl
+module _ (e : Entry) (peer tid : ℕ) where
+  -- a name that lived before isn't opened
+  pub not-anew : lives (e .lent .table) (responder peer tid) ≡ true → opens e (responder peer tid) ≡ false
+  unfolding opens
+  not-anew lived = rw lived refl
 
-  -- the data of a name that is opened is that of this PDU
-  pub data-opens : lives (e .lent .table) (responder peer tid) ≡ false → lives (e .done .table) (responder peer tid) ≡ true → openedData (e ∷ h) (responder peer tid) ≡ userData (e .lent .given)
-  unfolding openedData opens
-  data-opens none lives-then = rw (none, lives-then) refl
+  -- one that lives afterwards alone is
+  pub opens-now : lives (e .lent .table) (responder peer tid) ≡ false → lives (e .done .table) (responder peer tid) ≡ true → opens e (responder peer tid) ≡ true
+  unfolding opens
+  opens-now none lives-then = rw (none, lives-then) refl
+
+-- its opener stays the one that it had
+pub opener-stays : (e o : Entry) (h : List Entry) (peer tid : ℕ) → lives (e .lent .table) (responder peer tid) ≡ true → OpenedBy (responder peer tid) o h → OpenedBy (responder peer tid) o (e ∷ h)
+unfolding OpenedBy
+opener-stays e o h peer tid lived opened = inr (not-anew e peer tid lived, opened)
+
+pub opener-is : (e : Entry) (h : List Entry) (peer tid : ℕ) → opens e (responder peer tid) ≡ true → OpenedBy (responder peer tid) e (e ∷ h)
+unfolding OpenedBy
+opener-is e h peer tid opened = inl (opened, refl)

@@ -1,13 +1,15 @@
 -- A result is shown only with the exact data of a Result PDU that a waiting record takes in this very call. Assumes nothing.
 use Prim.Native.Nat.{ℕ}
-use mathlib.Core.Path.{_≡_, refl, sym, ap, _∙_}
+use mathlib.Core.Path.{_≡_, refl, sym, ap, subst, _∙_}
 use mathlib.Core.Bool.{Bool, true, false, _&&_, _||_}
 use mathlib.Core.List.{List}
 use mathlib.Core.Logic.{_⊎_, inl, inr}
 use borrow.Author.Tests.{eqb-true}
 use lib.Dec.{eqb}
 use Rattle.base_lists.proofs.StoresAndParts.{true-false}
-use Rattle.table_record.specs.Record.{stateNumber, stateOf}
+use Rattle.table_record.specs.Record.{roleOf, stateNumber, stateOf}
+use Rattle.table_record.specs.declared.Role.the-variants.{Initiator}
+use Rattle.step_arrivals.specs.declared.Name.the-variants.{Of}
 use Rattle.table_record.specs.declared.State.{State}
 use Rattle.table_record.specs.declared.State.the-variants.{IResultWait2}
 use Rattle.table_record.proofs.Back.{state-back}
@@ -39,6 +41,7 @@ use Rattle.step_outcome.specs.Carry.{Done, carriedOut, outcome}
 use Rattle.law_never_mixed.specs.NeverMixed.{stepResults, stepAborts, resultShown}
 use Rattle.law_never_mixed.proofs.Steps.{live-result-exactly, opening-neither}
 use Rattle.call_plans.specs.Calls.{Call, planFor, timeOf}
+use Rattle.call_plans.specs.Concerns.{Addressed, Concerns}
 use Rattle.law_history.specs.Trace.{Entry, Promise}
 use Rattle.law_history.specs.Demand.{ShownIn, userData, ResultTaken, ResultExact}
 use Rattle.law_ways.proofs.Ways.{isResultEvent, Came, Lived, Way}
@@ -107,6 +110,7 @@ module _ (peer tid : ℕ) (place : Place) where
       unfolding contextOf holderOf takenCall
       by-pdu s both came =
           let x = of-context s in
+          let a : Addressed (e .lent .given) (came .peer) waiting = subst (λ (c : Call). Concerns c (e .lent) (k .place)) (came .call-is) (k .concerns) in
           let kind = result-kind (pduOf (e .lent .given) .kind) (ap isResultEvent (sym (came .event-is)) ∙ both .1) in
           let at : place ≡ placeIn Datagram (userPart (pduOf (e .lent .given))) = sym (x .place-is) ∙ ap (λ (a : Asked). placeIn Datagram (a .user)) (came .asked-is) in
           record {
@@ -120,6 +124,7 @@ module _ (peer tid : ℕ) (place : Place) where
             waited = both .0;
             peer-is = x .peer-is;
             tid-is = x .tid-is;
+            names = a .name-is ∙ (ap (λ (s : State). Of (roleOf s) (waiting .tid)) (both .0) ∙ ap (Of Initiator) (x .tid-is));
             exact = ap (dataOf (e .lent .given) (e .done .store)) at ∙ user-shown (e .lent .given) (e .done .store);
           }
 

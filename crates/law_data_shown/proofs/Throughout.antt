@@ -1,4 +1,4 @@
--- Over any history each result and each Invoke of class 1 or 2 is shown with exact data. Assumes nothing.
+-- Over any history each result and each Invoke is that of its PDU, with exact data. Assumes nothing.
 use Prim.Native.Nat.{ℕ}
 use mathlib.Core.Path.{_≡_, sym, ap, _∙_}
 use mathlib.Core.List.{List, []}
@@ -6,11 +6,11 @@ use Rattle.base_lists.proofs.StoresAndParts.{true-false}
 use Rattle.table_record.specs.declared.State.the-variants.{Free}
 use Rattle.table_layout.specs.Table.{recordAt}
 use Rattle.law_history.specs.Trace.{Entry, Run, Throughout}
-use Rattle.law_history.specs.Demand.{ResultExact, InvokeExact}
+use Rattle.law_history.specs.Demand.{ResultExact, InvokeExact, Invoke0Exact}
 use Rattle.law_data_shown.specs.Cells.{inTidokWait, CellsHold}
 use Rattle.law_data_shown.proofs.Results.{result-exact}
 use Rattle.law_data_shown.proofs.Held.{still-held}
-use Rattle.law_data_shown.proofs.Invokes.{invoke-exact}
+use Rattle.law_data_shown.proofs.Invokes.{invoke-exact, invoke-0-exact}
 
 -- a table without a live record, as a fresh one is
 pub cells-of-none : (t s : List ℕ) → ((i : ℕ) → recordAt t i .state ≡ Free) → CellsHold t s []
@@ -29,3 +29,8 @@ pub invokes-exact : {t₀ s₀ t s : List ℕ} {h : List Entry} → Run t₀ s�
 unfolding Throughout
 invokes-exact Run.start first = tt
 invokes-exact (Run.called {h = h} run e p table store) first = (invoke-exact e p h (rw (table, store) (cells-held run first)), invokes-exact run first)
+
+pub invokes-0-exact : {t₀ s₀ t s : List ℕ} {h : List Entry} → Run t₀ s₀ t s h → CellsHold t₀ s₀ [] → Throughout Invoke0Exact h
+unfolding Throughout
+invokes-0-exact Run.start first = tt
+invokes-0-exact (Run.called {h = h} run e p table store) first = (invoke-0-exact e p h (rw (table, store) (cells-held run first)), invokes-0-exact run first)

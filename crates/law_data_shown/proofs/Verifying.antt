@@ -8,7 +8,7 @@ use mathlib.Core.Logic.{_⊎_, inl, inr}
 use lib.Dec.{eqb}
 use Rattle.base_lists.specs.Seq.{pick, every}
 use Rattle.base_lists.proofs.StoresAndParts.{true-false, both-fst, both-snd}
-use Rattle.table_record.specs.Record.{stateNumber, stateOf}
+use Rattle.table_record.specs.Record.{classOf, stateNumber, stateOf}
 use Rattle.table_record.specs.declared.State.{State}
 use Rattle.table_record.specs.declared.Record.{Record}
 use Rattle.table_layout.specs.Table.{recordAt, settingsOf, rowsOf}
@@ -82,13 +82,15 @@ pub record StillWaits (r after : Record) (cell : Bool) : Type 0 where
   pub same-len : after .len ≡ r .len
   pub same-peer : after .peer ≡ r .peer
   pub same-tid : after .tid ≡ r .tid
+  pub same-state : after .state ≡ r .state
+  pub same-ack : after .«user_ack» ≡ r .«user_ack»
 
 module _ (a : Act) (r : Record) (g : Given) (s : Settings) (rows : List (List ℕ)) where
   still : (n : Next) → staysThere (r .state) (a .cell) n ≡ true → inTidokWait (recordAfter n a r g s rows .state) ≡ true → StillWaits r (recordAfter n a r g s rows) (a .cell)
   unfolding recordAfter movedTo newRecord
   still Stays t e =
       let u : a .cell ≡ false = not-false (a .cell) (rw e at t) in
-      record { waited = e; unwritten = u; same-len = rw u refl; same-peer = refl; same-tid = refl }
+      record { waited = e; unwritten = u; same-len = rw u refl; same-peer = refl; same-tid = refl; same-state = refl; same-ack = refl }
   still Ends t e = true-false (sym e)
   still (Goes next) t e = true-false (sym e ∙ not-false (inTidokWait next) t)
 
@@ -148,6 +150,23 @@ isShown0 Opening.Valid2 = false
 isShown0 Opening.ToVerify1 = false
 isShown0 Opening.ToVerify2 = false
 isShown0 Opening.UnknownTidve = false
+
+-- the class of the record that an opening leaves, 0 where it leaves none
+abbrev pub opensClass : Opening → ℕ
+opensClass Opening.Ignored = 0
+opensClass Opening.Requested0 = 0
+opensClass Opening.Requested1 = 1
+opensClass Opening.Requested2 = 2
+opensClass Opening.Malformed = 0
+opensClass Opening.WrongVersion = 0
+opensClass Opening.Unsupported = 0
+opensClass Opening.TooLong = 0
+opensClass Opening.Shown0 = 0
+opensClass Opening.Valid1 = 1
+opensClass Opening.Valid2 = 2
+opensClass Opening.ToVerify1 = 1
+opensClass Opening.ToVerify2 = 2
+opensClass Opening.UnknownTidve = 0
 
 no-invoke : {A : Type 0} (v : Bool) → Indication.Nothing ≡ Indication.Invoke v → A
 no-invoke v e = true-false (sym (ap isInvoke e))
@@ -222,6 +241,41 @@ module _ (r : Record) (g : Given) (s : Settings) (rows : List (List ℕ)) where
   opens-waiting Opening.ToVerify1 e = record { to-verify = refl; written = refl; same-len = refl }
   opens-waiting Opening.ToVerify2 e = record { to-verify = refl; written = refl; same-len = refl }
   opens-waiting Opening.UnknownTidve e = true-false (sym e)
+
+  -- the class of a record that is opened is that of its opening, and its U/P what it was opened with
+  pub opened-class : (o : Opening) → classOf (openingTurn o r g s rows .after .state) ≡ opensClass o
+  unfolding openingTurn turnOf openingAct actWith stored shown recordAfter movedTo newRecord
+  opened-class Opening.Ignored = refl
+  opened-class Opening.Requested0 = refl
+  opened-class Opening.Requested1 = refl
+  opened-class Opening.Requested2 = refl
+  opened-class Opening.Malformed = refl
+  opened-class Opening.WrongVersion = refl
+  opened-class Opening.Unsupported = refl
+  opened-class Opening.TooLong = refl
+  opened-class Opening.Shown0 = refl
+  opened-class Opening.Valid1 = refl
+  opened-class Opening.Valid2 = refl
+  opened-class Opening.ToVerify1 = refl
+  opened-class Opening.ToVerify2 = refl
+  opened-class Opening.UnknownTidve = refl
+
+  pub opened-ack : (o : Opening) → 1 ≤ opensClass o → openingTurn o r g s rows .after .«user_ack» ≡ r .«user_ack»
+  unfolding openingTurn turnOf openingAct actWith stored shown recordAfter movedTo newRecord
+  opened-ack Opening.Ignored h = absurd (omega (arith, h))
+  opened-ack Opening.Requested0 h = absurd (omega (arith, h))
+  opened-ack Opening.Requested1 h = refl
+  opened-ack Opening.Requested2 h = refl
+  opened-ack Opening.Malformed h = absurd (omega (arith, h))
+  opened-ack Opening.WrongVersion h = absurd (omega (arith, h))
+  opened-ack Opening.Unsupported h = absurd (omega (arith, h))
+  opened-ack Opening.TooLong h = absurd (omega (arith, h))
+  opened-ack Opening.Shown0 h = absurd (omega (arith, h))
+  opened-ack Opening.Valid1 h = refl
+  opened-ack Opening.Valid2 h = refl
+  opened-ack Opening.ToVerify1 h = refl
+  opened-ack Opening.ToVerify2 h = refl
+  opened-ack Opening.UnknownTidve h = absurd (omega (arith, h))
 
   pub opening-shows : (o : Opening) (v : Bool) → Indicates (openingTurn o r g s rows) (Indication.Invoke v) → ShownAtOnce o (openingTurn o r g s rows .after) v
   unfolding openingTurn turnOf openingAct actWith stored shown recordAfter movedTo newRecord

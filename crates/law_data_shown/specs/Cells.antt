@@ -13,7 +13,8 @@ use Rattle.table_record.specs.declared.State.the-variants.{RTidokWait1, RTidokW
 use Rattle.table_layout.specs.Table.{count, recordAt}
 use Rattle.law_history.specs.Trace.{Entry}
 use Rattle.law_history.specs.Tally.{Name}
-use Rattle.law_history.specs.Demand.{openedData}
+use Rattle.law_history.specs.Changed.{ByInvoke}
+use Rattle.law_history.specs.Demand.{userData, OpenedBy}
 
 -- TIDOK WAIT, of class 1 or 2
 abbrev pub inTidokWait : State → Bool
@@ -23,11 +24,17 @@ inTidokWait s = eqb (stateNumber s) (stateNumber RTidokWait1) || eqb (stateNumbe
 abbrev pub responder : ℕ → ℕ → Name
 responder peer tid = record { role = Responder; peer = peer; tid = tid }
 
--- the cell of the record at a place, if it is in TIDOK WAIT, holds the data of the Invoke that opened it
-abbrev pub CellHolds : List ℕ → List ℕ → List Entry → ℕ → Type 0
-CellHolds t s h i =
-    inTidokWait (recordAt t i .state) ≡ true → part s (i * cellSize) (recordAt t i .len) ≡ openedData h (responder (recordAt t i .peer) (recordAt t i .tid))
+-- the record at a place was opened by a received Invoke, and its cell holds that Invoke's data
+pub record Awaits (t s : List ℕ) (h : List Entry) (i : ℕ) : Type 0 where
+  pub opener : Entry
+  pub opened : OpenedBy (responder (recordAt t i .peer) (recordAt t i .tid)) opener h
+  pub by : ByInvoke opener (recordAt t i)
+  pub holds : part s (i * cellSize) (recordAt t i .len) ≡ userData (opener .lent .given)
 
--- and so does that of each record
+-- so it is with the record at a place, if it is in TIDOK WAIT
+abbrev pub CellHolds : List ℕ → List ℕ → List Entry → ℕ → Type 0
+CellHolds t s h i = inTidokWait (recordAt t i .state) ≡ true → Awaits t s h i
+
+-- and with each record
 abbrev pub CellsHold : List ℕ → List ℕ → List Entry → Type 0
 CellsHold t s h = (i : ℕ) → i < count t → CellHolds t s h i
