@@ -91,3 +91,12 @@ isRequest (Call.Result time role peer tid) = false
 isRequest (Call.Abort time role peer tid reason) = false
 isRequest (Call.Receive time peer) = false
 isRequest (Call.Timer time) = false
+
+-- a user's answer, result or abort, which names a live record
+abbrev pub isPrimitive : Call → Bool
+isPrimitive (Call.Request time peer class userAck) = false
+isPrimitive (Call.Answer time role peer tid) = true
+isPrimitive (Call.Result time role peer tid) = true
+isPrimitive (Call.Abort time role peer tid reason) = true
+isPrimitive (Call.Receive time peer) = false
+isPrimitive (Call.Timer time) = false

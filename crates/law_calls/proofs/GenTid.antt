@@ -83,7 +83,7 @@ step-keeps-gen-tid l step e =
 abbrev Leaves : Step → Type 0
 Leaves step = step .changes .«gen_tid» ≡ Kept
 
-step-leaves : (c : Call) (l : Lent) (step : Step) → isRequest c ≡ false → Way c l step → Leaves step
+pub step-leaves : (c : Call) (l : Lent) (step : Step) → isRequest c ≡ false → Way c l step → Leaves step
 unfolding idleStep idleChanges liveStep stepOf turnChanges unmatchedStep openedStep openingStep openingChanges
 step-leaves c l step r (inl i) = rw (i .step-is) refl
 step-leaves c l step r (inr (inl k)) = rw (k .step-is) refl

@@ -29,11 +29,12 @@ module _ (k : ℕ) where
   unfolding putClock
   clock-same t v h = octet-apart t 0 (enc 8 v) k (inr (omega (arith, length-enc 8 v)))
 
-  cached-same : (t : List ℕ) (peer : ℕ) (c : Header) → OutsideCached peer k → Same t (cacheChanged t peer c)
+  cached-same : (t : List ℕ) (peer : ℕ) (c : Header) → (c ≡ Kept) ⊎ OutsideCached peer k → Same t (cacheChanged t peer c)
   unfolding cacheChanged putCached
-  cached-same t peer Kept o = refl
-  cached-same t peer (Set v) (inl h) = octet-apart t (cachedAt + peer * 2) (enc 2 v) k (inl (omega arith))
-  cached-same t peer (Set v) (inr h) = octet-apart t (cachedAt + peer * 2) (enc 2 v) k (inr (omega (arith, length-enc 2 v)))
+  cached-same t peer c (inl e) = rw e refl
+  cached-same t peer Kept (inr o) = refl
+  cached-same t peer (Set v) (inr (inl h)) = octet-apart t (cachedAt + peer * 2) (enc 2 v) k (inl (omega arith))
+  cached-same t peer (Set v) (inr (inr h)) = octet-apart t (cachedAt + peer * 2) (enc 2 v) k (inr (omega (arith, length-enc 2 v)))
 
   gen-tid-same : (t : List ℕ) (c : Header) → (c ≡ Kept) ⊎ (rcrMaxAt ≤ k) → Same t (genTidChanged t c)
   unfolding genTidChanged putGenTid
@@ -64,7 +65,7 @@ module _ (k : ℕ) where
     unfolding tableAfter
     other-octets past o =
         clock-same _ (c .time) (omega arith)
-        ∙ (cached-same _ (c .peer) (c .cached) (inr (omega (arith, peer)))
+        ∙ (cached-same _ (c .peer) (c .cached) (inr (inr (omega (arith, peer))))
         ∙ (gen-tid-same _ (c .«gen_tid») (inr (omega arith))
         ∙ (exit-same _ (c .place) (c .exit) exit fits o ∙ changed-same t (c .place) (c .change) o)))
 
@@ -73,11 +74,11 @@ module _ (k : ℕ) where
     unfolding tableAfter recordChanged exitStored
     all-octets none unstored past =
         clock-same _ (c .time) (omega arith)
-        ∙ (cached-same _ (c .peer) (c .cached) (inr (omega (arith, peer)))
+        ∙ (cached-same _ (c .peer) (c .cached) (inr (inr (omega (arith, peer))))
         ∙ (gen-tid-same _ (c .«gen_tid») (inr (omega arith)) ∙ rw (none, unstored) refl))
 
     -- in the header
-    pub header-octets : genTidAt ≤ k → k < headerSize → (c .«gen_tid» ≡ Kept) ⊎ (rcrMaxAt ≤ k) → OutsideCached (c .peer) k → Same t (tableAfter t c exit)
+    pub header-octets : genTidAt ≤ k → k < headerSize → (c .«gen_tid» ≡ Kept) ⊎ (rcrMaxAt ≤ k) → (c .cached ≡ Kept) ⊎ OutsideCached (c .peer) k → Same t (tableAfter t c exit)
     unfolding tableAfter
     header-octets past inside gen cached =
         clock-same _ (c .time) past

@@ -1,11 +1,11 @@
 -- Demand 3, sentence by sentence, over the history.
-use Prim.Native.Nat.{ℕ, _+_, _≤_, _<_}
+use Prim.Native.Nat.{ℕ, _+_, _/_, _%_, _≤_, _<_}
 use mathlib.Core.Path.{_≡_}
 use mathlib.Core.Bool.{Bool, true, false}
 use mathlib.Core.List.{List, [], _∷_}
 use mathlib.Core.Logic.{_⊎_}
 use Rattle.base_lists.specs.Seq.{part}
-use Rattle.table_record.specs.Record.{roleNumber}
+use Rattle.table_record.specs.Record.{roleNumber, sendTid}
 use Rattle.table_record.specs.declared.Role.the-variants.{Initiator, Responder}
 use Rattle.table_record.specs.declared.State.the-variants.{IResultWait2}
 use Rattle.table_record.specs.declared.Record.{Record}
@@ -15,7 +15,6 @@ use Rattle.table_layout.specs.Table.{count, recordAt}
 use Rattle.table_names_ok.specs.Names.{Unique}
 use Rattle.step_arrivals.specs.Arrivals.{nameOf}
 use Rattle.step_arrivals.specs.declared.Name.the-variants.{Of}
-use Rattle.row_columns.specs.Columns.{user}
 use Rattle.law_counting.specs.Counting.{Counts, Limits}
 use Rattle.step_shown.specs.Parts.{dataOf}
 use Rattle.step_shown.specs.declared.Place.{Place}
@@ -107,13 +106,13 @@ abbrev pub accepted : Answer → Bool
 accepted (Refused r) = false
 accepted (Taken sent told first second) = true
 
--- the user's Abort PDU with its reason, under the name that the call gives, and counted there
+-- the user's Abort PDU (type 4, flags 1) with the record's TID and the user's reason, and it is counted under the name that the call gives
 pub record OwnAbort (e : Entry) (role peer tid reason : ℕ) : Type 0 where
   pub name : Name
   pub role-is : roleNumber (name .role) ≡ role
   pub peer-is : name .peer ≡ peer
   pub tid-is : name .tid ≡ tid
-  pub pdu : pduOf (sentOf (e .done .answer) (e .done .output)) .kind ≡ Kind.Abort user reason
+  pub pdu : sentOf (e .done .answer) (e .done .output) ≡ 0x21 ∷ sendTid (name .role) tid / 256 ∷ sendTid (name .role) tid % 256 ∷ reason ∷ []
   pub counted : adds e name .aborts ≡ 1
 
 -- "the user's own abort" is counted by its acceptance: the PDU that an accepted abort call sends

@@ -30,7 +30,7 @@ use Rattle.law_steps_sound.specs.Sound.{Fits, Sound}
 use Rattle.law_counting.specs.Counting.{Counts, none, plus, ofSend, ofIndication}
 use Rattle.call_plans.specs.Calls.{Call}
 use Rattle.law_history.specs.Trace.{Entry}
-use Rattle.law_history.specs.Tally.{Name, isNamed, ofShown, ofSent, peerOf, adds}
+use Rattle.law_history.specs.Tally.{Name, isNamed, ofShown, ofSent, peerOf, adds, sentOf}
 use Rattle.law_history.specs.Moves.{turnAdds}
 use Rattle.law_one_turn.proofs.Sent.{sendsAs, sent-counts}
 use Rattle.law_one_turn.proofs.Shown.{showsAs, ClassShown, shown-counts}
@@ -62,6 +62,11 @@ module _ (call : Call) (l : Lent) (step : Step) (f : Fits l) (ok : Sound l step)
   sent-back : part (carriedOut l step .output) 0 (length (sentThen l step)) ≡ sentThen l step
   unfolding carriedOut
   sent-back = front-back (l .output) (sentThen l step) (omega (arith, sent-short, f .room))
+
+  -- the octets that it sent
+  pub sent-is : sentOf (carriedOut l step .answer) (carriedOut l step .output) ≡ sentThen l step
+  unfolding carriedOut
+  sent-is = sent-back
 
   -- what a step adds: its octets to the call's peer, its two indications
   pub step-adds : (n : Name) → adds (entryOf call l step) n ≡ plus (ofSent n (peerOf call (carriedOut l step .answer)) (sentThen l step)) (plus (ofShown n (step .first)) (ofShown n (step .second)))

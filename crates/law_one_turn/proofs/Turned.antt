@@ -112,6 +112,9 @@ module _ (call : Call) (l : Lent) (place : ℕ) (event : Event) (g : Given) (c :
     own-lives : lives t (nameOf was) ≡ true
     own-lives = it-lives t (nameOf was) (record { at = place; inside = live .inside; called = record { live = not-free (was .state) (live .live); role-is = refl; peer-is = refl; tid-is = refl } })
 
+    pub own-adds : adds entry (nameOf was) ≡ turnAdds turn
+    own-adds = its-adds (nameOf was) ∙ ap (λ (x : Bool). pick x (turnAdds turn) none) (named-self (roleOf (was .state)) (was .peer) (was .tid))
+
     pub turned : Turned entry
     turned = record {
       place = place;
@@ -120,7 +123,7 @@ module _ (call : Call) (l : Lent) (place : ℕ) (event : Event) (g : Given) (c :
       given-ok = given;
       inside = live .inside;
       live = live .live;
-      own = its-adds (nameOf was) ∙ ap (λ (x : Bool). pick x (turnAdds turn) none) (named-self (roleOf (was .state)) (was .peer) (was .tid));
+      own = own-adds;
       not-opened = not-opened entry (nameOf was) (asked (nameOf was)) (λ e. own-lives);
       others = others-silent;
       put = is-put;

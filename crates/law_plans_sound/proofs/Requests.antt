@@ -34,7 +34,7 @@ use Rattle.law_plans_sound.specs.Plans.{PlanSound}
 use Rattle.law_plans_sound.proofs.Openings.{openedRole, opened-as}
 
 -- a request's row is one of three, each an initiator's
-requested-role : (class : ℕ) → openedRole (requestedOf class) ≡ Initiator
+pub requested-role : (class : ℕ) → openedRole (requestedOf class) ≡ Initiator
 unfolding requestedOf
 requested-role class = go (eqb class 0) (eqb class 1)
   where

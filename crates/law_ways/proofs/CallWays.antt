@@ -81,7 +81,7 @@ module _ (l : Lent) (time peer : ℕ) (step : Step)
     fits = a .enters .fitting;
     small = rw (a .step-is ∙ e) (omega arith);
     exit-fits = λ k. no-exit (l .exit) k;
-    way = inl record { step-is = a .step-is ∙ e; bounded = a .enters .bounded; no-request = refl };
+    way = inl record { step-is = a .step-is ∙ e; bounded = a .enters .bounded; no-request = refl; no-primitive = refl };
   }
   by-way (inr (inl k)) = record {
     fits = a .enters .fitting;
@@ -134,7 +134,7 @@ module _ (l : Lent) (time : ℕ) (step : Step) (a : Entered (l .table) (length (
       came = inr refl;
     });
   }
-  by-due Found.Nothing q is = record { fits = a .fitting; small = rw is (omega arith); exit-fits = λ k. no-exit (l .exit) (k .1); way = inl record { step-is = is; bounded = a .bounded; no-request = refl } }
+  by-due Found.Nothing q is = record { fits = a .fitting; small = rw is (omega arith); exit-fits = λ k. no-exit (l .exit) (k .1); way = inl record { step-is = is; bounded = a .bounded; no-request = refl; no-primitive = refl } }
 
 pub call-ways : (c : Call) (l : Lent) (step : Step) → planFor c l ≡ Go step → Accepted c l step
 unfolding requestStep openingStep stepOf requestCall primitiveGiven timerStep

@@ -26,7 +26,7 @@ use Rattle.call_receive.proofs.Accepted as Receives
 use Rattle.call_receive.proofs.Ways.{Unmatched}
 use Rattle.step_outcome.specs.Carry.{Lent}
 use Rattle.law_steps_sound.specs.Sound.{Fits, GivenOk, LentOk}
-use Rattle.call_plans.specs.Calls.{Call, asRequest, Lends, timeOf, peerIn, isRequest}
+use Rattle.call_plans.specs.Calls.{Call, asRequest, Lends, timeOf, peerIn, isRequest, isPrimitive}
 use Rattle.call_plans.specs.Concerns.{Concerns, Comes, fires}
 
 -- a Result, TTR set
@@ -51,6 +51,7 @@ pub record Idle (c : Call) (step : Step) : Type 0 where
   pub step-is : step ≡ idleStep (timeOf c)
   pub bounded : timeOf c ≤ timeBound
   pub no-request : isRequest c ≡ false
+  pub no-primitive : isPrimitive c ≡ false
 
 -- the live record that the call concerns takes a PDU, or a primitive or firing, which is no Result
 pub record Lived (c : Call) (l : Lent) (step : Step) : Type 0 where
