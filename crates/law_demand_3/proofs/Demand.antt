@@ -11,18 +11,33 @@ use Rattle.step_shown.specs.Parts.{dataOf}
 use Rattle.step_shown.specs.declared.Place.{Place}
 use Rattle.step_shown.specs.declared.Shown.the-variants as Shown
 use Rattle.law_history.specs.Trace.{Entry, Promise, Run}
-use Rattle.law_history.specs.Demand.{Shows, userData, Demand3}
+use Rattle.law_history.specs.Changed.{Framed}
+use Rattle.law_history.specs.Demand.{Shows, userData, OwnAborts, Demand3}
 use Rattle.law_one_turn.proofs.Moves.{moves}
 use Rattle.law_data_shown.specs.Cells.{CellsHold}
 use Rattle.law_data_shown.proofs.Results.{result-exact}
-use Rattle.law_data_shown.proofs.Throughout.{results-exact, invokes-exact, cells-of-none}
-use Rattle.law_invariant.specs.Invariant.{Inv}
+use Rattle.law_data_shown.proofs.Throughout.{results-exact, invokes-exact, invokes-0-exact, cells-of-none}
+use Rattle.law_each_call.proofs.OwnAborts.{own-aborts}
+use Rattle.law_each_call.proofs.Changed.{call-framed}
+use Rattle.law_invariant.specs.Invariant.{Inv, Held}
 use Rattle.law_invariant.proofs.Fresh.{made-inv}
-use Rattle.law_invariant.proofs.Whole.{demand-3}
+use Rattle.law_invariant.proofs.Through.{throughout, kept-through}
 
 -- from any start that satisfies the invariant and whose cells hold the Invokes that are to be verified
 pub demand-3-from : {t₀ s₀ t s : List ℕ} {h : List Entry} (max : ℕ) → Inv max t₀ [] → CellsHold t₀ s₀ [] → Run t₀ s₀ t s h → Demand3 max t h
-demand-3-from max inv cells run = demand-3 moves (results-exact run) (invokes-exact run cells) max inv run
+demand-3-from max inv cells run =
+    let k : Held max _ _ = kept-through moves max inv run in
+    record {
+      unique = k .inv .formed .unique;
+      limits = k .limits;
+      calm = k .calm;
+      alone = k .alone;
+      own-aborts = throughout OwnAborts (λ e h p. own-aborts e p h) run;
+      results = results-exact run;
+      invokes = invokes-exact run cells;
+      invokes-0 = invokes-0-exact run cells;
+      framed = throughout Framed (λ e h p. call-framed e p h) run;
+    }
 
 -- from a table made fresh, with RCR_MAX its first setting
 pub demand-3-holds : (old settings : List ℕ) (first : ℕ) → freshAnswer (length old) settings first ≡ Made

@@ -1,0 +1,81 @@
+-- Demand 3 holds of any calls of the exported functions. Assumes nothing.
+use Prim.Native.Nat.{ℕ}
+use mathlib.Core.Path.{_≡_, refl, sym, ap, _∙_}
+use mathlib.Core.Bool.{Bool, true, false}
+use mathlib.Core.List.{List, [], _∷_}
+use lib.ListN.{length, getD}
+use lib.Dec.{ltb}
+use Rattle.base_lists.specs.Seq.{pick}
+use Rattle.table_fresh.specs.Fresh.{freshAnswer, tableAfter}
+use Rattle.table_fresh.specs.declared.Fresh.{Fresh}
+use Rattle.table_fresh.specs.declared.Fresh.the-variants as Fresh
+use Rattle.law_fresh_formed.proofs.Formed.{fresh-ok}
+use Rattle.call_plans.specs.Calls.{promised}
+use Rattle.law_history.specs.Trace.{Entry, Run}
+use Rattle.law_history.specs.Demand.{Demand3}
+use Rattle.law_invariant.specs.Invariant.{Inv}
+use Rattle.law_invariant.proofs.Fresh.{made-inv}
+use Rattle.law_data_shown.specs.Cells.{CellsHold}
+use Rattle.law_data_shown.proofs.Throughout.{cells-of-none}
+use Rattle.law_demand_3.proofs.Demand.{demand-3-from}
+use Rattle.c_answers.specs.Answers.{answerNumber, answerAfter}
+use Rattle.wtp.specs.Engine.{Called, handed, orSmall, calledBy}
+use Rattle.law_exported.specs.Session.{Exported, Keeps, entryFor, historyWith, Session}
+
+-- the history is a run of the engine from a start that satisfies the invariant
+record Follows (max : ℕ) (t s : List ℕ) (h : List Entry) : Type 0 where
+  table₀ : List ℕ
+  store₀ : List ℕ
+  inv : Inv max table₀ []
+  cells : CellsHold table₀ store₀ []
+  run : Run table₀ store₀ t s h
+
+-- a refused fresh-table call leaves the table
+fresh-refused : (a : Fresh) (t settings : List ℕ) (first : ℕ) → (a ≡ Fresh.Made → ⊥) → tableAfter a t settings first ≡ t
+unfolding tableAfter
+fresh-refused Fresh.Made t settings first unmade = absurd (unmade refl)
+fresh-refused (Fresh.Refused r) t settings first unmade = refl
+
+module _ (x : Exported) (k : Keeps x) where
+  -- too few words: nothing changed; else what the engine promises
+  few : ltb (length (x .words)) 32 ≡ true → (x .seen .table ≡ x .lent .table) × (x .seen .store ≡ x .lent .store)
+  unfolding orSmall
+  few e = (ap (λ (c : Called). c .table) (k .keeps) ∙ rw e refl, ap (λ (c : Called). c .store) (k .keeps) ∙ rw e refl)
+
+  enough : ltb (length (x .words)) 32 ≡ false → (x .seen .table ≡ promised (x .call) (x .lent) .table) × (x .seen .store ≡ promised (x .call) (x .lent) .store)
+  unfolding orSmall handed
+  enough e = (ap (λ (c : Called). c .table) (k .keeps) ∙ rw e refl, ap (λ (c : Called). c .store) (k .keeps) ∙ rw e refl)
+
+  -- C sees exactly the history's answer: its number and its words
+  pub seen-words : ltb (length (x .words)) 32 ≡ false → (x .seen .result ≡ answerNumber (entryFor x .done .answer)) × (x .seen .answer ≡ answerAfter (entryFor x .done .answer) (x .words))
+  unfolding orSmall handed
+  seen-words e = (ap (λ (c : Called). c .result) (k .keeps) ∙ rw e refl, ap (λ (c : Called). c .answer) (k .keeps) ∙ rw e refl)
+
+  follows-call : {max : ℕ} {t s : List ℕ} {h : List Entry} → Follows max t s h → x .lent .table ≡ t → x .lent .store ≡ s → Follows max (x .seen .table) (x .seen .store) (historyWith x h)
+  follows-call {max} {t} {s} {h} f table store = go (ltb (length (x .words)) 32) refl
+    where
+      go : (b : Bool) → ltb (length (x .words)) 32 ≡ b → Follows max (x .seen .table) (x .seen .store) (pick b h (entryFor x ∷ h))
+      go true e =
+          let c = few e in
+          record { table₀ = f .table₀; store₀ = f .store₀; inv = f .inv; cells = f .cells; run = rw (c .0 ∙ table, c .1 ∙ store) (f .run) }
+      go false e =
+          let c = enough e in
+          record { table₀ = f .table₀; store₀ = f .store₀; inv = f .inv; cells = f .cells; run = rw (c .0, c .1) (Run.called (f .run) (entryFor x) (record { lends = k .lends; keeps = refl }) table store) }
+
+follows : {max : ℕ} {t s : List ℕ} {h : List Entry} → Session max t s h → Follows max t s h
+follows (Session.made old store settings first made) =
+    record {
+      table₀ = tableAfter Fresh.Made old settings first;
+      store₀ = store;
+      inv = made-inv old settings first made;
+      cells = cells-of-none _ store (fresh-ok old settings first made .no-record);
+      run = Run.start;
+    }
+follows (Session.refused {t = t} session settings first unmade) =
+    let f = follows session in
+    record { table₀ = f .table₀; store₀ = f .store₀; inv = f .inv; cells = f .cells; run = rw (fresh-refused _ t settings first unmade) (f .run) }
+follows (Session.called session x k table store) = follows-call x k (follows session) table store
+
+-- DEMAND 3: whatever exported functions are called, in any order
+pub exported-demand-3 : {max : ℕ} {t s : List ℕ} {h : List Entry} → Session max t s h → Demand3 max t h
+exported-demand-3 {max} session = let f = follows session in demand-3-from max (f .inv) (f .cells) (f .run)
