@@ -1,2 +1,4 @@
 pub mod Columns
 pub mod SameActs
+pub mod Deadlines
+pub mod Reasons
