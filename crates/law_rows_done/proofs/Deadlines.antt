@@ -28,7 +28,7 @@ use Rattle.row_turns.specs.Turns.{newRecord, movedTo, recordAfter, turnOf, rowT
 use Rattle.row_turns.specs.declared.Given.{Given}
 use Rattle.law_rows_done.specs.LiveRows.{documentAct}
 use Rattle.law_rows_done.specs.OpeningRows.{documentOpeningAct}
-use Rattle.law_rows_done.specs.Leaves.{timerOf, openingTimer, deadlineBy}
+use Rattle.law_rows_done.specs.Leaves.{timerOf, openingTimer, Named}
 use Rattle.law_rows_done.proofs.SameActs.{acts-are-listed, opening-acts-are-listed}
 
 -- the first row of intervals is class 1's, the second class 2's
@@ -48,11 +48,7 @@ interval-named rows s rcr live small =
     rw (row-of-class s live, n) refl
 
 module _ (g : Given) (s : Settings) (rows : List (List ℕ)) (r : Record) where
-  -- what is so of the record that a turn leaves
-  abbrev Named : Timer → Record → Type 0
-  Named timer after = 1 ≤ stateNumber (after .state) → after .rcr .0 ≤ 8 → after .deadline ≡ deadlineBy timer (r .deadline) (g .time) s rows after
-
-  moved-named : (a : Act) (state : State) (timer : Timer) → a .timer ≡ timer → Named timer (movedTo state a r g s rows)
+  moved-named : (a : Act) (state : State) (timer : Timer) → a .timer ≡ timer → Named g s rows r timer (movedTo state a r g s rows)
   unfolding movedTo
   moved-named a state Timer.Runs e live small = rw e refl
   moved-named a state Timer.Stop e live small = rw e refl
@@ -60,21 +56,21 @@ module _ (g : Given) (s : Settings) (rows : List (List ℕ)) (r : Record) where
   moved-named a state Timer.W e live small = rw e refl
   moved-named a state Timer.R e live small = rw e (ap (λ n. g .time + n) (interval-named rows state _ live small))
 
-  after-named : (a : Act) (next : Next) (timer : Timer) → a .timer ≡ timer → Named timer (recordAfter next a r g s rows)
+  after-named : (a : Act) (next : Next) (timer : Timer) → a .timer ≡ timer → Named g s rows r timer (recordAfter next a r g s rows)
   unfolding recordAfter newRecord
   after-named a Stays timer e = moved-named a (r .state) timer e
   after-named a Ends timer e = λ live small. absurd (omega (arith, live))
   after-named a (Goes state) timer e = moved-named a state timer e
 
   -- a live record under its row
-  pub row-deadline : (row : Row) → Named (timerOf row) (rowTurn row r g s rows .after)
+  pub row-deadline : (row : Row) → Named g s rows r (timerOf row) (rowTurn row r g s rows .after)
   unfolding rowTurn turnOf documentAct
   row-deadline row =
       let a : Act = actOf row (r .«tidok_sent») (g .kind) (g .reason) in
       after-named a (a .next) (timerOf row) (ap (λ (x : Act). x .timer) (acts-are-listed row (r .«tidok_sent») (g .kind) (g .reason)))
 
   -- a new record under its opening
-  pub opening-deadline : (opening : Opening) → Named (openingTimer opening) (openingTurn opening r g s rows .after)
+  pub opening-deadline : (opening : Opening) → Named g s rows r (openingTimer opening) (openingTurn opening r g s rows .after)
   unfolding openingTurn turnOf documentOpeningAct
   opening-deadline opening =
       let a : Act = openingAct opening in
