@@ -29,9 +29,9 @@ use Rattle.law_commit.proofs.Frame.{commit-frames}
 use Rattle.law_rows_done.specs.LiveRows.{documentAct}
 use Rattle.law_rows_done.specs.OpeningRows.{documentOpeningAct}
 use Rattle.law_rows_done.proofs.SameActs.{acts-are-listed, opening-acts-are-listed}
-use Rattle.law_calls.specs.Promise.{Call, Lends, promised, planFor, timeOf}
+use Rattle.law_calls.specs.Promise.{Call, Lends, planFor, timeOf}
 use Rattle.law_calls.proofs.Outcomes.{as-planned, call-sound}
-use Rattle.law_afterwards.specs.Ways.{TakenBy, ComesAlone}
+use Rattle.law_afterwards.specs.Ways.{TakenBy, ComesAlone, tableLeft}
 use Rattle.law_afterwards.specs.LastTid.{lastTidOf, openingLastTid, lastTidBy}
 use Rattle.law_afterwards.proofs.Left.{headerThen, cached-left}
 use Rattle.law_afterwards.proofs.Ways.{call-way}
@@ -48,11 +48,8 @@ named Cache.SetIfNone cached tid = go (eqb cached 0)
     go false = refl
 
 module _ (c : Call) (l : Lent) (step : Step) (lends : Lends c l) (goes : planFor c l ≡ Go step) where
-  abbrev after : List ℕ
-  after = promised c l .table
-
   -- the cached TID of the peer of the step's changes
-  left : cachedOf after (step .changes .peer) ≡ headerThen (step .changes .cached) (cachedOf (l .table) (step .changes .peer))
+  left : cachedOf (tableLeft c l) (step .changes .peer) ≡ headerThen (step .changes .cached) (cachedOf (l .table) (step .changes .peer))
   unfolding outcome carriedOut tableThen PlanSound
   left =
       let s : Sound l step = rw goes at (call-sound c l lends) in
@@ -61,7 +58,7 @@ module _ (c : Call) (l : Lent) (step : Step) (lends : Lends c l) (goes : planFor
 
   -- an event of a live record: the peer's cached TID by the row
   pub last-tid-live : (k : TakenBy c l step) → let r = recordAt (l .table) (k .place) in
-      cachedOf after (r .peer) ≡ lastTidBy (lastTidOf (rowAt (l .table) (k .place) (k .event))) (cachedOf (l .table) (r .peer)) (r .tid)
+      cachedOf (tableLeft c l) (r .peer) ≡ lastTidBy (lastTidOf (rowAt (l .table) (k .place) (k .event))) (cachedOf (l .table) (r .peer)) (r .tid)
   unfolding liveStep liveTurn stepOf turnChanges rowTurn turnOf documentAct
   last-tid-live k =
       let t : List ℕ = l .table in
@@ -72,7 +69,7 @@ module _ (c : Call) (l : Lent) (step : Step) (lends : Lends c l) (goes : planFor
 
   -- what comes without one: that of the peer that sent it, by the opening
   pub last-tid-opening : (k : ComesAlone c l step)
-      → cachedOf after (k .holder .peer) ≡ lastTidBy (openingLastTid (k .opening)) (cachedOf (l .table) (k .holder .peer)) (k .holder .tid)
+      → cachedOf (tableLeft c l) (k .holder .peer) ≡ lastTidBy (openingLastTid (k .opening)) (cachedOf (l .table) (k .holder .peer)) (k .holder .tid)
   unfolding openingStep openedTurn openingChanges stepOf openingTurn turnOf documentOpeningAct
   last-tid-opening k =
       let t : List ℕ = l .table in
@@ -81,14 +78,14 @@ module _ (c : Call) (l : Lent) (step : Step) (lends : Lends c l) (goes : planFor
       ∙ ap (λ (a : Act). lastTidBy (a .cache) (cachedOf t (k .holder .peer)) (k .holder .tid)) (opening-acts-are-listed (k .opening))
 
   -- nothing but the time: every peer's is the same
-  pub last-tid-idle : step ≡ idleStep (timeOf c) → (peer : ℕ) → peer < peers → cachedOf after peer ≡ cachedOf (l .table) peer
+  pub last-tid-idle : step ≡ idleStep (timeOf c) → (peer : ℕ) → peer < peers → cachedOf (tableLeft c l) peer ≡ cachedOf (l .table) peer
   unfolding outcome carriedOut tableThen PlanSound idleStep idleChanges
   last-tid-idle e peer h = go (equal-or peer (step .changes .peer))
     where
       kept : step .changes .cached ≡ Kept
       kept = ap (λ (y : Step). y .changes .cached) e
 
-      go : (peer ≡ step .changes .peer) ⊎ (peer ≡ step .changes .peer → ⊥) → cachedOf after peer ≡ cachedOf (l .table) peer
+      go : (peer ≡ step .changes .peer) ⊎ (peer ≡ step .changes .peer → ⊥) → cachedOf (tableLeft c l) peer ≡ cachedOf (l .table) peer
       go (inl d) = rw d (left ∙ ap (λ (x : Header). headerThen x (cachedOf (l .table) (step .changes .peer))) kept)
       go (inr d) =
           let s : Sound l step = rw goes at (call-sound c l lends) in

@@ -1,6 +1,7 @@
 -- The ways of an accepted call: an event that a live record takes, something that comes without one, or nothing but the time.
 use Prim.Native.Nat.{ℕ}
 use mathlib.Core.Path.{_≡_}
+use mathlib.Core.List.{List}
 use mathlib.Core.Logic.{_⊎_}
 use Rattle.codec_pdu.specs.declared.Kind.the-variants as Kind
 use Rattle.codec_reading.specs.Read.{pduOf}
@@ -16,7 +17,7 @@ use Rattle.step_plan.specs.declared.Step.{Step}
 use Rattle.step_live.specs.Turning.{liveStep}
 use Rattle.step_opening.specs.Opens.{openingStep}
 use Rattle.step_outcome.specs.Carry.{Lent}
-use Rattle.law_calls.specs.Promise.{Call, timeOf}
+use Rattle.law_calls.specs.Promise.{Call, promised, timeOf}
 
 -- an event that the live record at a place takes, at the call's time; a received Abort is the PDU that was lent
 pub record TakenBy (call : Call) (l : Lent) (step : Step) : Type 0 where
@@ -41,3 +42,7 @@ pub record ComesAlone (call : Call) (l : Lent) (step : Step) : Type 0 where
 -- one of these, or "An accepted call stores its time" and no more
 abbrev pub Way : Call → Lent → Step → Type 0
 Way call l step = (step ≡ idleStep (timeOf call)) ⊎ (TakenBy call l step ⊎ ComesAlone call l step)
+
+-- the table that a call leaves
+abbrev pub tableLeft : Call → Lent → List ℕ
+tableLeft call l = promised call l .table
