@@ -12,7 +12,7 @@ use Rattle.row_events.specs.declared.Row.the-variants as Row
 use Rattle.table_finding.specs.declared.Found.{Found}
 use Rattle.table_finding.specs.declared.Found.the-variants.{At, Nothing}
 use Rattle.step_opening.specs.Opens.{placeFor}
-use Rattle.law_places.proofs.Places.{LiveAt}
+use Rattle.law_places.specs.Places.{LiveAt}
 use Rattle.step_live.specs.Turning.{rowAt}
 use Rattle.step_plan.specs.declared.Step.{Step}
 use Rattle.step_plan.specs.declared.Plan.the-variants as Plan

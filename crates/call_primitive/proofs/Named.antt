@@ -19,9 +19,10 @@ use Rattle.table_well_formed.specs.WellFormed.{WellFormed}
 use Rattle.table_finding.specs.Finding.{Within, namedOf}
 use Rattle.table_finding.specs.declared.Found.{Found}
 use Rattle.table_finding.specs.declared.Found.the-variants.{At, Nothing}
-use Rattle.table_finding.proofs.Tests.{Called}
+use Rattle.table_finding.specs.Searched.{Called}
 use Rattle.table_finding.proofs.Searches.{named-found, named-nothing}
-use Rattle.law_places.proofs.Places.{live-number, LiveAt, live-range}
+use Rattle.law_places.specs.Places.{LiveAt}
+use Rattle.law_places.proofs.Places.{live-number, live-range}
 use Rattle.call_refusal.proofs.Fits.{record-there}
 use Rattle.call_primitive.specs.Primitives.{Named, NoneNamed, namedBy, foundFor}
 use Rattle.call_primitive.specs.declared.Primitive.{Primitive}

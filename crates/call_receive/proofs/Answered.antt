@@ -23,32 +23,13 @@ use Rattle.step_arrivals.specs.Arrivals.{tidOf, nameOf, invokesUs, isTidve, arr
 use Rattle.step_arrivals.specs.declared.Name.the-variants.{Of}
 use Rattle.row_turns.specs.Turns.{newRecord, turnOf, recordAfter, openingTurn}
 use Rattle.step_changes.specs.Changes.{changeOf, cachedAfter}
-use Rattle.step_commit.specs.declared.Change.the-variants as Change
-use Rattle.step_commit.specs.declared.Header.the-variants as Header
 use Rattle.step_shown.specs.Shows.{shownOf}
-use Rattle.step_shown.specs.declared.Shown.the-variants as Shown
 use Rattle.step_plan.specs.Steps.{stepOf, senderOf, toldOf}
 use Rattle.step_plan.specs.declared.Holder.{Holder}
-use Rattle.step_plan.specs.declared.Step.{Step}
-use Rattle.step_plan.specs.declared.Told.the-variants as Told
 use Rattle.step_opening.specs.Opens.{openingStep, openedTurn, openingChanges}
 use Rattle.call_receive.specs.Receives.{arriverOf, openedGiven, openedCall, openedStep, arrivalOpening, unmatchedStep, receiveStep}
 use Rattle.call_receive.proofs.Dispatch.{none-takes}
-
--- a step for no record: it sends this PDU, stores its time, and leaves all else of the table, the cells and the user alone
-pub record OnlySends (step : Step) (time : ℕ) (send : Send) (role : Role) (tid : ℕ) : Type 0 where
-  pub sends : step .send ≡ send
-  pub by-role : step .by .role ≡ role
-  pub by-tid : step .by .tid ≡ tid
-  pub at-time : step .changes .time ≡ time
-  pub no-record : step .changes .change ≡ Change.Nothing
-  pub no-exit : step .changes .exit ≡ false
-  pub same-gen-tid : step .changes .«gen_tid» ≡ Header.Kept
-  pub same-cached : step .changes .cached ≡ Header.Kept
-  pub no-cell : step .cell ≡ false
-  pub none-first : step .first ≡ Shown.Nothing
-  pub none-second : step .second ≡ Shown.Nothing
-  pub none-told : step .told ≡ Told.Nothing
+use Rattle.call_receive.specs.Sends.{OnlySends}
 
 -- an opening that ends at once and shows nothing
 ended-sends : (t : List ℕ) (opening : Opening) (h : Holder) (time : ℕ) (p : Pdu) (send : Send) → openingAct opening ≡ ended send Indication.Nothing

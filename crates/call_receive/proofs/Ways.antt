@@ -18,9 +18,10 @@ use Rattle.table_well_formed.specs.WellFormed.{WellFormed}
 use Rattle.table_finding.specs.Finding.{isFound, namedOf, freeOf}
 use Rattle.table_finding.specs.declared.Found.{Found}
 use Rattle.table_finding.specs.declared.Found.the-variants as Found
-use Rattle.table_finding.proofs.Tests.{Called}
-use Rattle.table_finding.proofs.Searches.{NoneOf, named-found, named-nothing}
-use Rattle.law_places.proofs.Places.{LiveAt, named-live}
+use Rattle.table_finding.specs.Searched.{Called, NoneOf}
+use Rattle.table_finding.proofs.Searches.{named-found, named-nothing}
+use Rattle.law_places.specs.Places.{LiveAt}
+use Rattle.law_places.proofs.Places.{named-live}
 use Rattle.row_events.specs.declared.Opening.{Opening}
 use Rattle.row_events.specs.declared.Opening.the-variants.{Ignored, UnknownTidve}
 use Rattle.row_columns.specs.Columns.{actWith}

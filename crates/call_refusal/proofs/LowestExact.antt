@@ -14,16 +14,7 @@ use Rattle.table_layout.specs.Table.{clockOf}
 use Rattle.table_well_formed.specs.WellFormed.{fitting}
 use Rattle.table_well_formed.proofs.TableTest.{to-fitting, from-fitting}
 use Rattle.call_refusal.specs.Judging.{Test, lowest, Condition, Lowest, lateOf, unfit, Unfit, tooLate, Late}
-
--- a test tells its condition, both ways, and both have one number
-abbrev pub Tells : Test → Condition → Type 0
-Tells t c = (t .number ≡ c .number) × (t .holds ≡ true → c .says) × (t .holds ≡ false → c .says → ⊥)
-
-abbrev pub AllTell : List Test → List Condition → Type 0
-AllTell [] [] = Unit
-AllTell [] (c ∷ cs) = ⊥
-AllTell (t ∷ ts) [] = ⊥
-AllTell (t ∷ ts) (c ∷ cs) = Tells t c × AllTell ts cs
+use Rattle.call_refusal.specs.Told.{Tells, AllTell}
 
 first-exact : (t : Test) (ts : List Test) (c : Condition) (cs : List Condition) (b : Bool) → t .holds ≡ b → Tells t c → Lowest cs (lowest ts) → Lowest (c ∷ cs) (lowest (t ∷ ts))
 unfolding lowest Lowest

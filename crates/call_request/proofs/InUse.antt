@@ -12,7 +12,7 @@ use Rattle.table_layout.specs.Table.{count, genTidOf, recordAt}
 use Rattle.table_finding.specs.Finding.{tidInUse}
 use Rattle.table_finding.proofs.Searches.{tid-used, tid-unused}
 use Rattle.call_refusal.specs.Judging.{test, condition}
-use Rattle.call_refusal.proofs.LowestExact.{Tells}
+use Rattle.call_refusal.specs.Told.{Tells}
 use Rattle.law_places.proofs.Places.{live-number}
 use Rattle.call_request.specs.Requests.{UsesGenTid}
 

@@ -13,7 +13,8 @@ use Rattle.base_numbers.specs.declared.Refusal.the-variants.{WrongLength}
 use Rattle.codec_joining.specs.declared.Joining.the-variants.{Length, Refused}
 use Rattle.codec_joining.specs.Join.{lengthOctets, eachInRange, sum, joinable, plannedAnswer}
 use Rattle.codec_joining.specs.Fitting.{fitsIn}
-use Rattle.codec_joining.proofs.Sizes.{size, length-listed, joinable-facts, facts-joinable}
+use Rattle.codec_joining.specs.Joinable.{size}
+use Rattle.codec_joining.proofs.Sizes.{length-listed, joinable-facts, facts-joinable}
 use Rattle.codec_joining.proofs.Remaining.{Left, left-none, left-next, left-more}
 
 module _ (n left room : ℕ) where

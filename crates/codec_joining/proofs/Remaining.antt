@@ -8,7 +8,8 @@ use mathlib.Core.Bool.{true}
 use lib.ListN.{length, getD, drop}
 use lib.Seq.{drop-cons}
 use Rattle.codec_joining.specs.Join.{lengthOctets, eachInRange, sum}
-use Rattle.codec_joining.proofs.Sizes.{size, range-first, range-rest}
+use Rattle.codec_joining.specs.Joinable.{size}
+use Rattle.codec_joining.proofs.Sizes.{range-first, range-rest}
 
 -- what is left after i PDUs, which have `used` octets and with their lengths `taken`
 pub record Left (lengths : List ℕ) (i used taken : ℕ) : Type 0 where

@@ -1,5 +1,5 @@
 -- The test `joinable` as facts about sums. Assumes nothing.
-use Prim.Native.Nat.{ℕ, _+_, _≤_}
+use Prim.Native.Nat.{ℕ, _≤_}
 use native.Mathlib.Omega.{arith}
 use borrow.Author.Tests.{leb-true, le-leb, eqb-false, eqb-true, eq-eqb, ne-eqb}
 use mathlib.Core.Path.{_≡_, refl, sym}
@@ -10,12 +10,8 @@ use lib.Seq.{length-take-le}
 use lib.Dec.{leb, eqb}
 use Rattle.base_lists.specs.Seq.{pick}
 use Rattle.base_lists.proofs.StoresAndParts.{true-false, both-fst, both-snd}
-use Rattle.codec_joining.specs.Join.{lengthOctets, listed, joinedOctets, eachInRange, sum, joinable}
-
--- the octets of PDUs of these lengths, each with its length
-abbrev pub size : List ℕ → ℕ
-size [] = 0
-size (n ∷ ns) = length (lengthOctets n) + n + size ns
+use Rattle.codec_joining.specs.Join.{listed, joinedOctets, eachInRange, sum, joinable}
+use Rattle.codec_joining.specs.Joinable.{size, Joinable}
 
 pub length-listed : (ns bytes : List ℕ) → sum ns ≤ length bytes → length (listed bytes ns) ≡ size ns
 unfolding listed sum
@@ -33,13 +29,6 @@ range-first n ns e =
 pub range-rest : (n : ℕ) (ns : List ℕ) → 1 ≤ n → n ≤ 1500 → eachInRange (n ∷ ns) ≡ eachInRange ns
 unfolding eachInRange
 range-rest n ns a b = rw (le-leb 1 n a, le-leb n 1500 b)
-
--- what `joinable` asks, with the sizes of the PDUs and their lengths for the octets
-pub record Joinable (bytes lengths : List ℕ) : Type 0 where
-  pub some : 1 ≤ length lengths
-  pub each : eachInRange lengths ≡ true
-  pub adds : sum lengths ≡ length bytes
-  pub short : size lengths ≤ 1499
 
 module _ (bytes lengths : List ℕ) where
   pub joinable-facts : joinable bytes lengths ≡ true → Joinable bytes lengths

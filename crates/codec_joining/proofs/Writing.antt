@@ -8,7 +8,7 @@ use lib.Seq.{drop-drop}
 use Rattle.base_lists.specs.Seq.{part, put}
 use Rattle.base_lists.proofs.StoresAndParts.{length-put, length-part, put-append, put-nil}
 use Rattle.codec_joining.specs.Join.{lengthOctets, listed}
-use Rattle.codec_joining.proofs.Sizes.{Joinable}
+use Rattle.codec_joining.specs.Joinable.{Joinable}
 use Rattle.codec_joining.proofs.Remaining.{Left, left-none, left-next, left-more, next-length}
 
 -- after octet 0, in out₀, and i PDUs, which end at `at` and are the octets of bytes before `from`

@@ -13,7 +13,8 @@ use Rattle.codec_separation.proofs.Ordered.{kinds}
 use Rattle.codec_separation.specs.Order.{Repeated}
 use Rattle.codec_joining.specs.Join.{lengthOctets, joinedOctets, eachInRange, sum, joinable}
 use Rattle.codec_joining.proofs.Octets.{one-octet, at-most-two}
-use Rattle.codec_joining.proofs.Sizes.{size, range-rest, Joinable, facts-joinable}
+use Rattle.codec_joining.specs.Joinable.{size, Joinable}
+use Rattle.codec_joining.proofs.Sizes.{range-rest, facts-joinable}
 use Rattle.law_datagrams.specs.Pdus.{octetsOf, Separates, cut}
 use Rattle.law_datagrams.proofs.Joined.{joined-separated}
 

@@ -12,7 +12,8 @@ use Rattle.base_lists.specs.Seq.{part}
 use Rattle.codec_separation.specs.Faults.{Announced, seven, fifteen}
 use Rattle.codec_joining.specs.Join.{lengthOctets, listed, joinedOctets, eachInRange, sum, joinable}
 use Rattle.codec_joining.proofs.Octets.{one-octet, two-octets}
-use Rattle.codec_joining.proofs.Sizes.{length-listed, range-first, range-rest, Joinable, joinable-facts}
+use Rattle.codec_joining.specs.Joinable.{Joinable}
+use Rattle.codec_joining.proofs.Sizes.{length-listed, range-first, range-rest, joinable-facts}
 use Rattle.law_datagrams.specs.Pdus.{cut, Separates}
 use Rattle.law_datagrams.proofs.Holds.{Holds, holds-none, holds-more, holds-separates}
 

@@ -17,7 +17,8 @@ use Rattle.table_well_formed.specs.WellFormed.{Sized, WellFormed}
 use Rattle.table_fresh.specs.Fresh.{freshAnswer, freshTable, tableAfter}
 use Rattle.table_fresh.specs.declared.Fresh.the-variants.{Made}
 use Rattle.table_fresh.proofs.Sizes.{size-told}
-use Rattle.table_fresh.proofs.Ranges.{word, AllInRange, in-range}
+use Rattle.table_fresh.specs.Conditions.{word, AllInRange}
+use Rattle.table_fresh.proofs.Ranges.{in-range}
 use Rattle.table_fresh.proofs.Answers.{accepted}
 use Rattle.table_fresh.proofs.Facts.{FreshFacts, fresh-length, fresh-facts}
 use Rattle.law_fresh_formed.specs.FreshOk.{FreshOk}

@@ -1,5 +1,5 @@
 -- In a well-formed table a record that is found lies inside and is in range, and a place to open one is inside. Assumes nothing.
-use Prim.Native.Nat.{ℕ, _+_, _≤_, _<_}
+use Prim.Native.Nat.{ℕ, _≤_, _<_}
 use native.Mathlib.Omega.{arith}
 use mathlib.Core.Path.{_≡_, refl}
 use mathlib.Core.List.{List}
@@ -10,7 +10,7 @@ use Rattle.table_record.specs.Record.{stateNumber}
 use Rattle.table_record.specs.declared.State.{State}
 use Rattle.table_record.specs.declared.State.the-variants as State
 use Rattle.table_layout.specs.Table.{count, settingsOf, recordAt}
-use Rattle.table_record_ok.specs.OneRecord.{Live, InRange, RecordOk}
+use Rattle.table_record_ok.specs.OneRecord.{InRange, RecordOk}
 use Rattle.table_record_ok.proofs.RecordTest.{free-state}
 use Rattle.table_well_formed.specs.WellFormed.{WellFormed}
 use Rattle.table_finding.specs.Finding.{namedOf, freeOf, dueOf}
@@ -19,6 +19,7 @@ use Rattle.table_finding.specs.declared.Found.the-variants.{At, Nothing}
 use Rattle.table_finding.proofs.Searches.{named-found, free-found}
 use Rattle.table_finding.proofs.Earliest.{due-found}
 use Rattle.step_opening.specs.Opens.{placeFor}
+pub use Rattle.law_places.specs.Places.{LiveAt}
 
 -- a state that isn't free has a number over 0
 pub live-number : (s : State) → (s ≡ State.Free → ⊥) → 1 ≤ stateNumber s
@@ -34,11 +35,6 @@ live-number State.RInvokeRespWait2 h = omega arith
 live-number State.RResultWait h = omega arith
 live-number State.RResultRespWait h = omega arith
 live-number State.RWaitTimeout h = omega arith
-
--- a live record inside a well-formed table
-pub record LiveAt (t : List ℕ) (i : ℕ) : Type 0 where
-  pub inside : i < count t
-  pub live : Live (recordAt t i)
 
 module _ (t : List ℕ) (w : WellFormed t) where
   pub place-small : (i : ℕ) → i < count t → i < recordsBound

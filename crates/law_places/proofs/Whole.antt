@@ -12,7 +12,8 @@ use Rattle.table_finding.specs.Finding.{namedOf, freeOf, dueOf}
 use Rattle.table_finding.specs.declared.Found.{Found}
 use Rattle.table_finding.specs.declared.Found.the-variants.{At}
 use Rattle.step_opening.specs.Opens.{placeFor}
-use Rattle.law_places.proofs.Places.{LiveAt, place-small, live-range, named-live, due-live, free-place}
+use Rattle.law_places.specs.Places.{LiveAt}
+use Rattle.law_places.proofs.Places.{place-small, live-range, named-live, due-live, free-place}
 
 pub record Whole (t : List ℕ) (i : ℕ) : Type 0 where
   pub inside : i < count t

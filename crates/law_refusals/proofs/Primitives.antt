@@ -17,7 +17,8 @@ use Rattle.table_finding.specs.declared.Found.{Found}
 use Rattle.table_finding.specs.declared.Found.the-variants.{At, Nothing}
 use Rattle.step_live.specs.Turning.{rowAt}
 use Rattle.call_refusal.specs.Judging.{lowest, Lowest, test, condition}
-use Rattle.call_refusal.proofs.LowestExact.{Tells, lowest-exact, tells-unfit, tells-late}
+use Rattle.call_refusal.specs.Told.{Tells}
+use Rattle.call_refusal.proofs.LowestExact.{lowest-exact, tells-unfit, tells-late}
 use Rattle.call_primitive.specs.Primitives.{ExitRefused, NoneNamed, exitRefused, tooMuch, notAllowed, foundFor, primitiveTests}
 use Rattle.call_primitive.specs.declared.Primitive.{Primitive}
 use Rattle.call_primitive.proofs.Named.{found-named, found-none, one-named}

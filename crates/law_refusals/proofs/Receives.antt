@@ -12,7 +12,8 @@ use Rattle.base_lists.specs.Seq.{pick}
 use Rattle.base_lists.proofs.StoresAndParts.{true-false}
 use Rattle.base_numbers.specs.declared.Refusal.the-variants.{PeerTooLarge, WrongLength}
 use Rattle.call_refusal.specs.Judging.{test, lowest, condition, Lowest}
-use Rattle.call_refusal.proofs.LowestExact.{Tells, lowest-exact, tells-unfit, tells-late}
+use Rattle.call_refusal.specs.Told.{Tells}
+use Rattle.call_refusal.proofs.LowestExact.{lowest-exact, tells-unfit, tells-late}
 use Rattle.call_receive.specs.Receives.{receiveTests}
 use Rattle.law_refusals.specs.Receives.{OutsideLength, receiveConditions}
 

@@ -16,7 +16,8 @@ use Rattle.table_finding.specs.declared.Found.{Found}
 use Rattle.table_finding.specs.declared.Found.the-variants.{At, Nothing}
 use Rattle.table_finding.proofs.Searches.{free-found, free-nothing}
 use Rattle.call_refusal.specs.Judging.{test, lowest, condition, Lowest}
-use Rattle.call_refusal.proofs.LowestExact.{Tells, lowest-exact, tells-unfit, tells-late}
+use Rattle.call_refusal.specs.Told.{Tells}
+use Rattle.call_refusal.proofs.LowestExact.{lowest-exact, tells-unfit, tells-late}
 use Rattle.law_places.proofs.Places.{live-number}
 use Rattle.call_request.specs.Requests.{noneFree, requestTests}
 use Rattle.call_request.specs.declared.Request.{Request}

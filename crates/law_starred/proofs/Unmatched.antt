@@ -11,7 +11,8 @@ use Rattle.step_sending.specs.Sending.{tidOf}
 use Rattle.step_sending.specs.Octets.{octetsSent}
 use Rattle.step_sending.specs.declared.Sender.{Sender}
 use Rattle.call_receive.proofs.Accepted.{receive-accepted}
-use Rattle.call_receive.proofs.Answered.{OnlySends, tidve-unmatched}
+use Rattle.call_receive.specs.Sends.{OnlySends}
+use Rattle.call_receive.proofs.Answered.{tidve-unmatched}
 use Rattle.step_outcome.specs.Carry.{octetsOut, sentThen}
 use Rattle.law_starred.specs.Starred.{Says, unmatched}
 

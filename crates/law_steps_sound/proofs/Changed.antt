@@ -35,7 +35,8 @@ use Rattle.step_plan.specs.Steps.{idleChanges}
 use Rattle.step_plan.specs.declared.Holder.{Holder}
 use Rattle.step_live.specs.Turning.{rowAt, liveTurn}
 use Rattle.step_opening.specs.Opens.{openedTurn, openingChanges}
-use Rattle.law_places.proofs.Places.{LiveAt, live-range}
+use Rattle.law_places.specs.Places.{LiveAt}
+use Rattle.law_places.proofs.Places.{live-range}
 use Rattle.law_steps_sound.specs.Sound.{GivenOk}
 use Rattle.law_steps_sound.proofs.Ends.{ended-stores-none}
 

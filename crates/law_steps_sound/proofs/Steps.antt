@@ -30,7 +30,8 @@ use Rattle.step_plan.specs.declared.Holder.{Holder}
 use Rattle.step_plan.specs.declared.Call.{Call}
 use Rattle.step_live.specs.Turning.{rowAt, holderOf, liveTurn, liveStep}
 use Rattle.step_opening.specs.Opens.{openedTurn, openingChanges, openingStep}
-use Rattle.law_places.proofs.Places.{LiveAt, live-range}
+use Rattle.law_places.specs.Places.{LiveAt}
+use Rattle.law_places.proofs.Places.{live-range}
 use Rattle.step_outcome.specs.Carry.{Lent, CellFits, FitOut}
 use Rattle.law_steps_sound.specs.Sound.{Fits, LentOk, GivenOk, Sound}
 use Rattle.law_steps_sound.proofs.Sends.{class-fits, sends-fit}

@@ -15,7 +15,7 @@ use Rattle.table_record.specs.declared.Role.the-variants.{Initiator, Responder}
 use Rattle.table_record.specs.Record.{sendTid, rcvTid}
 use Rattle.step_arrivals.specs.declared.Name.{Name}
 use Rattle.step_arrivals.specs.declared.Name.the-variants.{Nobody, Of}
-use Rattle.step_arrivals.specs.Arrivals.{tidOf, nameOf, ignoredType, invokesUs}
+use Rattle.step_arrivals.specs.Arrivals.{tidOf, nameOf, ignoredType, invokesUs, otherEnd}
 
 -- the TID of a name, if it names a record, has 15 bits
 abbrev Fits : Name → Type 0
@@ -44,11 +44,6 @@ low-bits tid h = omega arith
 
 all-bits : (tid : ℕ) → tid < 32768 → tid % 32768 ≡ tid
 all-bits tid h = omega arith
-
--- the record at the other end of a transaction
-abbrev pub otherEnd : Role → Role
-otherEnd Initiator = Responder
-otherEnd Responder = Initiator
 
 module _ (s : List ℕ) (long : 3 ≤ length s) where
   -- 01: "names the record of its peer and low 15 TID bits, as initiator when the top bit is 1"

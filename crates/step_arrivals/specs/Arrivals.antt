@@ -41,6 +41,11 @@ abbrev pub ignoredType : Role → ℕ
 ignoredType Initiator = 1
 ignoredType Responder = 2
 
+-- the record at the other end of a transaction
+abbrev pub otherEnd : Role → Role
+otherEnd Initiator = Responder
+otherEnd Responder = Initiator
+
 -- 01, "Events": what a PDU is to a live record; a length that number 11 refuses never comes and counts as malformed
 unfoldable pub eventOf : Kind → Event
 eventOf (Invoke gtr ttr rid v n u l) = pick rid Event.InvokeRid Event.Invoke

@@ -15,20 +15,8 @@ use Rattle.table_layout.specs.Table.{recordAt}
 use Rattle.table_finding.specs.Finding.{isDue, earlierOf, betterOf, best, dueOf}
 use Rattle.table_finding.specs.declared.Found.{Found}
 use Rattle.table_finding.specs.declared.Found.the-variants.{At, Nothing}
-use Rattle.table_finding.proofs.Tests.{Due, denied, tells-due}
-
-abbrev pub DueAt : List ℕ → ℕ → ℕ → Type 0
-DueAt t time m = Due time (recordAt t m)
-
-abbrev pub deadlineAt : List ℕ → ℕ → ℕ
-deadlineAt t m = recordAt t m .deadline
-
--- the record at j is due, no record below n that is due has an earlier deadline, and each one before it a later one
-pub record Earliest (t : List ℕ) (time n j : ℕ) : Type 0 where
-  pub below : j < n
-  pub is-due : DueAt t time j
-  pub no-earlier : (m : ℕ) → m < n → DueAt t time m → deadlineAt t j ≤ deadlineAt t m
-  pub before-later : (m : ℕ) → m < j → DueAt t time m → deadlineAt t j < deadlineAt t m
+use Rattle.table_finding.specs.Searched.{DueAt, deadlineAt, Earliest}
+use Rattle.table_finding.proofs.Tests.{denied, tells-due}
 
 -- what the search for the earliest says is so
 abbrev pub Says : List ℕ → ℕ → ℕ → Found → Type 0

@@ -2,7 +2,7 @@
 use mathlib.Core.Path.{_≡_, refl, sym}
 use mathlib.Core.List.{List}
 use mathlib.Core.Bool.{Bool, true, false}
-use Prim.Native.Nat.{ℕ, _<_}
+use Prim.Native.Nat.{ℕ}
 use native.Mathlib.Omega.{arith}
 use Rattle.base_lists.proofs.StoresAndParts.{true-false}
 use Rattle.table_record.specs.declared.Role.{Role}
@@ -13,17 +13,9 @@ use Rattle.table_finding.specs.Finding.{first, isFound, isFree, isNamed,
 use Rattle.table_finding.specs.declared.Found.{Found}
 use Rattle.table_finding.specs.declared.Found.the-variants.{At, Nothing}
 use Rattle.table_finding.proofs.First.{Lowest, Told, first-told}
-use Rattle.table_finding.proofs.Tests.{Called, Uses, Tells, denied, tells-free, tells-named, tells-uses}
-
--- j is the lowest of n records of which P holds
-pub record LowestOf (P : Record → Type 0) (t : List ℕ) (n j : ℕ) : Type 0 where
-  pub below : j < n
-  pub is-so : P (recordAt t j)
-  pub none-before : (m : ℕ) → m < j → P (recordAt t m) → ⊥
-
--- P holds of none of n records
-abbrev pub NoneOf : (Record → Type 0) → List ℕ → ℕ → Type 0
-NoneOf P t n = (m : ℕ) → m < n → P (recordAt t m) → ⊥
+use Rattle.table_finding.specs.Searched.{Called, Uses, LowestOf}
+pub use Rattle.table_finding.specs.Searched.{NoneOf}
+use Rattle.table_finding.proofs.Tests.{Tells, denied, tells-free, tells-named, tells-uses}
 
 module _ (p : Record → Bool) (P : Record → Type 0) (f : (r : Record) → Tells (p r) (P r)) (t : List ℕ) (n : ℕ) where
   abbrev searched : Found

@@ -14,28 +14,8 @@ use Rattle.table_record.specs.declared.State.the-variants.{Free}
 use Rattle.table_record.specs.declared.Record.{Record}
 use Rattle.table_record.proofs.Back.{state-back}
 use Rattle.table_finding.specs.Finding.{isFree, hasRole, isNamed, usesTid, isDue}
-
-abbrev pub Live : Record → Type 0
-Live r = r .state ≡ Free → ⊥
-
--- a live record of this role, peer and TID
-pub record Called (role : Role) (peer tid : ℕ) (r : Record) : Type 0 where
-  pub live : Live r
-  pub role-is : roleOf (r .state) ≡ role
-  pub peer-is : r .peer ≡ peer
-  pub tid-is : r .tid ≡ tid
-
--- a live initiator record of this TID, any peer
-pub record Uses (tid : ℕ) (r : Record) : Type 0 where
-  pub live : Live r
-  pub role-is : roleOf (r .state) ≡ Initiator
-  pub tid-is : r .tid ≡ tid
-
--- a live record whose timer runs and whose deadline is not after the time
-pub record Due (time : ℕ) (r : Record) : Type 0 where
-  pub live : Live r
-  pub runs : r .deadline ≡ 0 → ⊥
-  pub not-after : r .deadline ≤ time
+use Rattle.table_finding.specs.Searched.{Live, Uses, Due}
+pub use Rattle.table_finding.specs.Searched.{Called}
 
 -- a test that is true exactly where P holds
 abbrev pub Tells : Bool → Type 0 → Type 0

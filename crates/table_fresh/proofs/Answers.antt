@@ -11,8 +11,9 @@ use Rattle.base_lists.proofs.StoresAndParts.{told, not-so, true-false}
 use Rattle.table_fresh.specs.Fresh.{rightSize, inRange, freshAnswer, freshNumber}
 use Rattle.table_fresh.specs.declared.Fresh.{Fresh}
 use Rattle.table_fresh.specs.declared.Fresh.the-variants.{Made, Refused}
-use Rattle.table_fresh.proofs.Sizes.{Sized, size-told, size-right}
-use Rattle.table_fresh.proofs.Ranges.{OutOfRange, AllInRange, in-range, out-of-range, refused-range, never-both}
+use Rattle.table_fresh.proofs.Sizes.{size-told, size-right}
+use Rattle.table_fresh.specs.Conditions.{OutOfRange, AllInRange, SomeSize}
+use Rattle.table_fresh.proofs.Ranges.{in-range, out-of-range, refused-range, never-both}
 
 -- the answer by its two tests
 abbrev chosen : Bool → Bool → Fresh
@@ -32,10 +33,6 @@ chosen-10 : (a b : Bool) → freshNumber (chosen a b) ≡ 10 → (a ≡ true) ×
 chosen-10 true true e = absurd (omega arith)
 chosen-10 true false e = (refl, refl)
 chosen-10 false b e = absurd (omega arith)
-
--- a table of 1 to 48 records
-abbrev pub SomeSize : ℕ → Type 0
-SomeSize len = (n : ℕ) × Sized len n
 
 wrong-size : (len : ℕ) → rightSize len ≡ false → SomeSize len → ⊥
 wrong-size len e s = true-false (sym (size-right len (s .0) (s .1)) ∙ e)

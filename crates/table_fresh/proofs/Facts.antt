@@ -13,7 +13,7 @@ use Rattle.table_record.specs.Record.{stateOf, decoded}
 use Rattle.table_record.specs.declared.State.the-variants.{Free}
 use Rattle.table_layout.specs.Table.{clockOf, genTidOf, settingsOf, fours, rowsOf, cachedOf, recordAt}
 use Rattle.table_fresh.specs.Fresh.{zeros, fourEach, fieldsOf, freshTable}
-use Rattle.table_fresh.proofs.Ranges.{word, AllInRange}
+use Rattle.table_fresh.specs.Conditions.{word, AllInRange}
 use Rattle.table_fresh.proofs.Zeros.{length-zeros, getD-zeros}
 use Rattle.table_fresh.proofs.Written.{length-fields}
 

@@ -5,37 +5,13 @@ use mathlib.Core.List.{List}
 use mathlib.Core.Logic.{_⊎_, inl, inr}
 use Prim.Native.Nat.{ℕ, zero, suc, _≤_, _<_}
 use native.Mathlib.Omega.{arith}
-use lib.ListN.{length, getD}
+use lib.ListN.{length}
 use lib.Dec.{leb, eqb}
 use borrow.Author.Tests.{lt-ltb, le-ltb, le-leb, leb-true, leb-false, eqb-true, eqb-false}
 use Rattle.base_lists.specs.Seq.{pick}
 use Rattle.base_lists.proofs.StoresAndParts.{told, lt-or-le, both, both-fst, both-snd, not-so, true-false, every-at, some-fails}
 use Rattle.table_fresh.specs.Fresh.{wordOk, wordsOk, inRange}
-
-abbrev pub word : List ℕ → ℕ → ℕ
-word ws k = getD ws k 0
-
--- an interval out of its range
-abbrev pub NoInterval : ℕ → Type 0
-NoInterval w = (w < 1) ⊎ (86400000 < w)
-
--- 01: "a setting or first GenTID is out of range"
-pub data OutOfRange (ws : List ℕ) (first : ℕ) : Type 0 where
-  not-32-words : (length ws ≡ 32 → ⊥) → OutOfRange ws first
-  rcr-max-over-8 : 8 < word ws 0 → OutOfRange ws first
-  aec-max-over-8 : 8 < word ws 1 → OutOfRange ws first
-  no-interval : (k : ℕ) → 2 ≤ k → k < 22 → NoInterval (word ws k) → OutOfRange ws first
-  not-zero : (k : ℕ) → 22 ≤ k → k < 32 → (word ws k ≡ 0 → ⊥) → OutOfRange ws first
-  gen-tid-over-32767 : 32767 < first → OutOfRange ws first
-
--- and all of them in range
-pub record AllInRange (ws : List ℕ) (first : ℕ) : Type 0 where
-  pub words-32 : length ws ≡ 32
-  pub rcr-max : word ws 0 ≤ 8
-  pub aec-max : word ws 1 ≤ 8
-  pub intervals : (k : ℕ) → 2 ≤ k → k < 22 → (1 ≤ word ws k) × (word ws k ≤ 86400000)
-  pub zero-words : (k : ℕ) → 22 ≤ k → k < 32 → word ws k ≡ 0
-  pub gen-tid : first ≤ 32767
+use Rattle.table_fresh.specs.Conditions.{word, NoInterval, OutOfRange, not-32-words, rcr-max-over-8, aec-max-over-8, no-interval, not-zero, gen-tid-over-32767, AllInRange}
 
 -- ---- one word
 module _ (k w : ℕ) where

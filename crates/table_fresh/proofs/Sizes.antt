@@ -9,12 +9,7 @@ use borrow.Author.Tests.{leb-true, le-leb, lt-leb, eqb-true, eq-eqb}
 use Rattle.base_layout.specs.Layout.{headerSize, recordSize, base, recordsBound}
 use Rattle.base_lists.proofs.StoresAndParts.{both, both-fst, both-snd}
 use Rattle.table_fresh.specs.Fresh.{tableBytes, rightSize}
-
--- how many records there are, where the size is right
-pub record Sized (len n : ℕ) : Type 0 where
-  pub some : 1 ≤ n
-  pub most : n ≤ 48
-  pub exact : len ≡ base n
+use Rattle.table_fresh.specs.Conditions.{Sized}
 
 pub size-told : (len : ℕ) → rightSize len ≡ true → Sized len ((len - headerSize) / recordSize)
 unfolding rightSize

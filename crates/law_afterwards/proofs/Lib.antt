@@ -1,0 +1,6 @@
+pub mod Left
+pub mod Ways
+pub mod GenTid
+pub mod LastTid
+pub mod Deadlines
+pub mod Reasons

@@ -1,0 +1,4 @@
+pub mod Ways
+pub mod GenTid
+pub mod LastTid
+pub mod Reasons

@@ -1,0 +1,87 @@
+-- What a row leaves and shows, as numbers: the record's deadline and counters, and the type and reason of an abort.
+use Prim.Native.Nat.{ℕ, _+_, _-_, _≤_}
+use mathlib.Core.Path.{_≡_}
+use mathlib.Core.List.{List, []}
+use lib.ListN.{getD}
+use Rattle.base_lists.specs.Seq.{pick}
+use Rattle.table_record.specs.Record.{classOf, stateNumber}
+use Rattle.table_record.specs.declared.Record.{Record}
+use Rattle.table_layout.specs.declared.Settings.{Settings}
+use Rattle.row_events.specs.Events.{sameRow, sameOpening}
+use Rattle.row_events.specs.declared.Row.{Row}
+use Rattle.row_events.specs.declared.Row.the-variants.{PeerAborts}
+use Rattle.row_events.specs.declared.Opening.{Opening}
+use Rattle.row_columns.specs.declared.Count.{Count}
+use Rattle.row_columns.specs.declared.Count.the-variants as Count
+use Rattle.row_columns.specs.declared.Timer.{Timer}
+use Rattle.row_columns.specs.declared.Timer.the-variants as Timer
+use Rattle.row_columns.specs.declared.Send.{Send}
+use Rattle.row_columns.specs.declared.Send.the-variants as Send
+use Rattle.row_columns.specs.declared.Indication.{Indication}
+use Rattle.row_columns.specs.declared.Indication.the-variants as Indication
+use Rattle.row_turns.specs.declared.Given.{Given}
+use Rattle.law_rows_done.specs.Lists.{listed}
+use Rattle.law_rows_done.specs.LiveRows as Live
+use Rattle.law_rows_done.specs.OpeningRows as Opening
+
+-- the timer that document 01 names for a row, and for an opening
+abbrev pub timerOf : Row → Timer
+timerOf row = listed sameRow Live.timerLines row Timer.Runs
+
+abbrev pub openingTimer : Opening → Timer
+openingTimer opening = listed sameOpening Opening.timerLines opening Timer.Runs
+
+-- 01: "R[RCR] is one of two rows of nine intervals, class 1 and class 2": by the class and the RCR that the record then has
+abbrev pub intervalR : List (List ℕ) → Record → ℕ
+intervalR rows after = getD (getD rows (classOf (after .state) - 1) []) (after .rcr .0) 0
+
+-- the deadline of a record: now and the interval that is named; "stop timer", "no timer" is none; else as it was
+abbrev pub deadlineBy : Timer → (was now : ℕ) → Settings → List (List ℕ) → Record → ℕ
+deadlineBy Timer.Runs was now s rows after = was
+deadlineBy Timer.Stop was now s rows after = 0
+deadlineBy Timer.A was now s rows after = now + s .a
+deadlineBy Timer.W was now s rows after = now + s .w
+deadlineBy Timer.R was now s rows after = now + intervalR rows after
+
+-- the deadline of the record that a turn leaves live is the one that is named, whatever came with the event
+abbrev pub Named : Given → Settings → List (List ℕ) → (before : Record) → Timer → (after : Record) → Type 0
+Named g s rows before timer after =
+    1 ≤ stateNumber (after .state) → after .rcr .0 ≤ 8 → after .deadline ≡ deadlineBy timer (before .deadline) (g .time) s rows after
+
+-- what document 01 counts in a row
+abbrev pub countOf : Row → Count
+countOf row = listed sameRow Live.countLines row Count.Same
+
+-- RCR, and AEC, afterwards: "RCR 0", "RCR + 1", "AEC 0", "AEC + 1"
+abbrev pub rcrBy : Count → ℕ → ℕ
+rcrBy Count.Same n = n
+rcrBy Count.RcrZero n = 0
+rcrBy Count.RcrUp n = n + 1
+rcrBy Count.AecZero n = n
+rcrBy Count.AecUp n = n
+
+abbrev pub aecBy : Count → ℕ → ℕ
+aecBy Count.Same n = n
+aecBy Count.RcrZero n = n
+aecBy Count.RcrUp n = n
+aecBy Count.AecZero n = 0
+aecBy Count.AecUp n = n + 1
+
+-- both counters of the record that a turn leaves live
+abbrev pub Counted : (before : Record) → Count → (after : Record) → Type 0
+Counted before count after = 1 ≤ stateNumber (after .state) → (after .rcr .0 ≡ rcrBy count (before .rcr .0)) × (after .aec .0 ≡ aecBy count (before .aec .0))
+
+-- "the reason sent, or 8 if none is sent"
+abbrev pub reasonSent : Send → ℕ
+reasonSent Send.Nothing = 8
+reasonSent (Send.Invoke again) = 8
+reasonSent (Send.Tidok again) = 8
+reasonSent (Send.LastAck again) = 8
+reasonSent (Send.HoldOn again) = 8
+reasonSent (Send.Tidve again) = 8
+reasonSent (Send.Result again) = 8
+reasonSent (Send.Abort kind reason) = reason
+
+-- "for an abort also type and reason: those received, else provider with the reason sent, or 8 if none is sent"
+abbrev pub abortBy : Row → (kind reason : ℕ) → Send → Indication
+abortBy row kind reason send = pick (sameRow row PeerAborts) (Indication.Abort kind reason) (Indication.Abort 0 (reasonSent send))

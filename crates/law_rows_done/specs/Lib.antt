@@ -1,0 +1,4 @@
+pub mod Lists
+pub mod LiveRows
+pub mod OpeningRows
+pub mod Leaves
