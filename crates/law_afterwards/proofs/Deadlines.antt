@@ -25,8 +25,9 @@ use Rattle.law_steps_sound.specs.Sound.{Sound}
 use Rattle.law_plans_sound.specs.Plans.{PlanSound}
 use Rattle.law_rows_done.specs.Leaves.{timerOf, openingTimer, deadlineBy}
 use Rattle.law_rows_done.proofs.Deadlines.{row-deadline, opening-deadline}
-use Rattle.law_calls.specs.Promise.{Call, Lends, promised, planFor, timeOf}
-use Rattle.law_calls.proofs.Outcomes.{as-planned, call-sound}
+use Rattle.call_plans.specs.Calls.{Call, Lends, promised, planFor, timeOf}
+use Rattle.law_plans_sound.proofs.CallSound.{call-sound}
+use Rattle.law_calls.proofs.Outcomes.{as-planned}
 use Rattle.law_afterwards.specs.Ways.{TakenBy, ComesAlone, tableLeft}
 use Rattle.law_afterwards.proofs.Left.{put-left, cleared-left, none-left}
 use Rattle.law_afterwards.proofs.Ways.{call-way}

@@ -29,8 +29,9 @@ use Rattle.law_commit.proofs.Frame.{commit-frames}
 use Rattle.law_rows_done.specs.LiveRows.{documentAct}
 use Rattle.law_rows_done.specs.OpeningRows.{documentOpeningAct}
 use Rattle.law_rows_done.proofs.SameActs.{acts-are-listed, opening-acts-are-listed}
-use Rattle.law_calls.specs.Promise.{Call, Lends, planFor, timeOf}
-use Rattle.law_calls.proofs.Outcomes.{as-planned, call-sound}
+use Rattle.call_plans.specs.Calls.{Call, Lends, planFor, timeOf}
+use Rattle.law_plans_sound.proofs.CallSound.{call-sound}
+use Rattle.law_calls.proofs.Outcomes.{as-planned}
 use Rattle.law_afterwards.specs.Ways.{TakenBy, ComesAlone, tableLeft}
 use Rattle.law_afterwards.specs.LastTid.{lastTidOf, openingLastTid, lastTidBy}
 use Rattle.law_afterwards.proofs.Left.{headerThen, cached-left}

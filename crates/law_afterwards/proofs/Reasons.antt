@@ -41,7 +41,7 @@ use Rattle.law_never_mixed.specs.NeverMixed.{abortShown, stepAborts, stepResult
 use Rattle.law_never_mixed.proofs.Steps.{opening-neither, idle-neither}
 use Rattle.law_rows_done.specs.Leaves.{reasonSent, abortBy}
 use Rattle.law_rows_done.proofs.Reasons.{abort-named, second-no-abort}
-use Rattle.law_calls.specs.Promise.{Call, planFor}
+use Rattle.call_plans.specs.Calls.{Call, planFor}
 use Rattle.law_afterwards.specs.Ways.{TakenBy, Way}
 use Rattle.law_afterwards.specs.Reasons.{Shows, ReceivedSo, SentSo}
 use Rattle.law_afterwards.proofs.Ways.{call-way}

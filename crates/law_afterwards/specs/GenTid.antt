@@ -1,15 +1,11 @@
 -- GenTID after a call (01, "TIDs").
 use Prim.Native.Nat.{ℕ, _+_, _%_}
+use Rattle.base_lists.specs.Seq.{pick}
 use Rattle.step_outcome.specs.declared.Answer.{Answer}
 use Rattle.step_outcome.specs.declared.Answer.the-variants.{Refused, Taken}
-use Rattle.law_calls.specs.Promise.{Call}
+use Rattle.call_plans.specs.Calls.{Call, isRequest}
 
 -- "GenTID counts modulo 32,768, also for class 0; a refused request doesn't count", and no other call counts it
 abbrev pub genTidAfter : Call → Answer → ℕ → ℕ
-genTidAfter (Call.Request time peer class userAck) (Taken sent told first second) genTid = (genTid + 1) % 32768
-genTidAfter (Call.Request time peer class userAck) (Refused r) genTid = genTid
-genTidAfter (Call.Answer time role peer tid) answer genTid = genTid
-genTidAfter (Call.Result time role peer tid) answer genTid = genTid
-genTidAfter (Call.Abort time role peer tid reason) answer genTid = genTid
-genTidAfter (Call.Receive time peer) answer genTid = genTid
-genTidAfter (Call.Timer time) answer genTid = genTid
+genTidAfter c (Taken sent told first second) genTid = pick (isRequest c) ((genTid + 1) % 32768) genTid
+genTidAfter c (Refused r) genTid = genTid

@@ -17,7 +17,7 @@ use Rattle.step_plan.specs.declared.Step.{Step}
 use Rattle.step_live.specs.Turning.{liveStep}
 use Rattle.step_opening.specs.Opens.{openingStep}
 use Rattle.step_outcome.specs.Carry.{Lent}
-use Rattle.law_calls.specs.Promise.{Call, promised, timeOf}
+use Rattle.call_plans.specs.Calls.{Call, promised, timeOf}
 
 -- an event that the live record at a place takes, at the call's time; a received Abort is the PDU that was lent
 pub record TakenBy (call : Call) (l : Lent) (step : Step) : Type 0 where

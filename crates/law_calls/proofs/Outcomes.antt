@@ -1,6 +1,6 @@
 -- Each call: one outcome; a refusal changes nothing; what fitted still fits; an accepted call keeps all but what its step names. Assumes nothing.
 use Prim.Native.Nat.{ℕ}
-use mathlib.Core.Path.{_≡_, sym, ap, _∙_}
+use mathlib.Core.Path.{_≡_, refl, sym, ap, _∙_}
 use mathlib.Core.List.{List}
 use Rattle.base_numbers.specs.declared.Refusal.{Refusal}
 use Rattle.step_plan.specs.declared.Step.{Step}
@@ -18,6 +18,11 @@ pub one-outcome : (c : Call) (l : Lent) (a b : Answer) (t u s v o w : List ℕ) 
 one-outcome c l a b t u s v o w p q =
     let e : done a t s o ≡ done b u v w = p ∙ sym q in
     (ap (λ (d : Done). d .answer) e, ap (λ (d : Done). d .table) e, ap (λ (d : Done). d .store) e, ap (λ (d : Done). d .output) e)
+
+-- what is promised is the plan carried out
+pub as-planned : (c : Call) (l : Lent) → promised c l ≡ outcome l (planFor c l)
+unfolding promised
+as-planned c l = refl
 
 -- WELL FORMED KEPT: after any call, refused or not, what fitted fits
 pub call-still-fits : (c : Call) (l : Lent) → Lends c l → Fits l → StillFits l (promised c l)

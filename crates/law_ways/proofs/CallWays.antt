@@ -6,12 +6,14 @@ use mathlib.Core.Bool.{false}
 use mathlib.Core.List.{List, []}
 use mathlib.Core.Logic.{_⊎_, inl, inr}
 use lib.ListN.{length}
+use lib.Dec.{eqb}
 use Rattle.base_layout.specs.Layout.{exitBound}
 use Rattle.codec_reading.specs.Read.{pduOf}
 use Rattle.table_layout.specs.Table.{count, recordAt}
 use Rattle.table_finding.specs.Finding.{dueOf}
 use Rattle.table_finding.specs.declared.Found.{Found}
 use Rattle.table_finding.specs.declared.Found.the-variants as Found
+use Rattle.row_events.specs.Events.{eventNumber}
 use Rattle.row_events.specs.declared.Event.the-variants as Event
 use Rattle.step_arrivals.specs.Arrivals.{eventOf, nameOf}
 use Rattle.step_arrivals.specs.declared.Name.the-variants.{Of}
@@ -34,15 +36,16 @@ use Rattle.call_receive.proofs.Ways.{Taken, Unmatched, ways}
 use Rattle.call_timer.specs.Timers.{firedGiven, firedCall, stepBy, timerStep}
 use Rattle.call_timer.proofs.Accepted as Timers
 use Rattle.step_outcome.specs.Carry.{Lent}
-use Rattle.call_plans.specs.Calls.{Call, asRequest, planFor, Lends, peerIn, isRequest}
+use Rattle.call_plans.specs.Calls.{Call, asRequest, planFor, Lends, timeOf, peerIn, isRequest}
 use Rattle.call_plans.specs.Concerns.{NamedBy, Concerns, Allowed, Comes, fires}
 use Rattle.law_ways.proofs.Ways.{isResultEvent, Accepted}
+use Rattle.law_ways.proofs.ReceivedAbort.{other, abort-read}
 
 no-exit : (x : List ℕ) → x ≡ [] → length x ≤ exitBound
 no-exit x e = rw e (omega arith)
 
 -- a user's answer, result or abort
-module _ (c : Call) (l : Lent) (p : Primitive) (peer : peerIn c ≡ p .peer) (asks : isRequest c ≡ false) (silent : fires c ≡ false) (none : isResultEvent (p .event) ≡ false)
+module _ (c : Call) (l : Lent) (p : Primitive) (peer : peerIn c ≡ p .peer) (asks : isRequest c ≡ false) (silent : fires c ≡ false) (none : isResultEvent (p .event) ≡ false) (no-abort : eqb (eventNumber (p .event)) 9 ≡ false) (time : p .time ≡ timeOf c)
     (given : Lends c l → p .len ≡ length (l .given)) (exit : Lends c l → p .«exit_len» ≡ length (l .exit)) (names : (place : ℕ) → NamedBy (p .role) (p .peer) (p .tid) (recordAt (l .table) place) → Concerns c l place)
     (comes : (place : ℕ) → Allowed l place (p .event) → Comes c l place (p .event) (primitiveGiven p)) where
   by-primitive : (step : Step) → primitivePlan (l .table) (length (l .store)) (length (l .output)) p ≡ Go step → Accepted c l step
@@ -63,6 +66,8 @@ module _ (c : Call) (l : Lent) (p : Primitive) (peer : peerIn c ≡ p .peer) (as
           live = a .live;
           concerns = names (a .place) (record { role-is = n .role; peer-is = n .peer; tid-is = n .tid });
           comes = comes (a .place) (a .record-ready .row);
+          time-is = time;
+          aborted = other (p .event) no-abort;
           given-ok = record { time = a .enters .bound; len = a .record-ready .message; exit-len = a .record-ready .exit };
           lent-ok = λ k. record { message-inside = omega (arith, given k); message-fits = a .record-ready .message; exit-fits = omega (arith, exit k, a .record-ready .exit) };
           no-request = asks;
@@ -96,6 +101,8 @@ module _ (l : Lent) (time peer : ℕ) (step : Step)
       live = k .live;
       concerns = record { name-is = rw (k .called .role-is, k .called .tid-is) (k .names); peer-is = k .called .peer-is };
       comes = refl;
+      time-is = refl;
+      aborted = abort-read (pduOf (l .given) .kind);
       given-ok = record { time = a .enters .bounded; len = omega arith; exit-len = omega arith };
       lent-ok = λ x. record { message-inside = omega arith; message-fits = omega arith; exit-fits = no-exit (l .exit) x };
       no-request = refl;
@@ -127,6 +134,8 @@ module _ (l : Lent) (time : ℕ) (step : Step) (a : Entered (l .table) (length (
       live = due-live (l .table) (a .fitting .formed) time i q;
       concerns = q;
       comes = refl;
+      time-is = refl;
+      aborted = other Event.Timer refl;
       given-ok = record { time = a .bounded; len = omega arith; exit-len = omega arith };
       lent-ok = λ k. record { message-inside = omega arith; message-fits = omega arith; exit-fits = no-exit (l .exit) (k .1) };
       no-request = refl;
@@ -146,9 +155,9 @@ call-ways (Call.Request time peer class userAck) l step e =
       exit-fits = λ k. no-exit (l .exit) k;
       way = inr (inr (inl record { time = time; peer = peer; class = class; userAck = userAck; call-is = refl; accepted = a }));
     }
-call-ways (Call.Answer time role peer tid) l step e = by-primitive _ l _ refl refl refl refl (λ k. rw k refl) (λ k. refl) (λ place n. n) (λ place a. (refl, a)) step e
-call-ways (Call.Result time role peer tid) l step e = by-primitive _ l _ refl refl refl refl (λ k. refl) (λ k. rw k refl) (λ place n. n) (λ place a. (refl, a)) step e
-call-ways (Call.Abort time role peer tid reason) l step e = by-primitive _ l _ refl refl refl refl (λ k. rw (k .0) refl) (λ k. rw (k .1) refl) (λ place n. n) (λ place a. (refl, (a, refl))) step e
+call-ways (Call.Answer time role peer tid) l step e = by-primitive _ l _ refl refl refl refl refl refl (λ k. rw k refl) (λ k. refl) (λ place n. n) (λ place a. (refl, a)) step e
+call-ways (Call.Result time role peer tid) l step e = by-primitive _ l _ refl refl refl refl refl refl (λ k. refl) (λ k. rw k refl) (λ place n. n) (λ place a. (refl, a)) step e
+call-ways (Call.Abort time role peer tid reason) l step e = by-primitive _ l _ refl refl refl refl refl refl (λ k. rw (k .0) refl) (λ k. rw (k .1) refl) (λ place n. n) (λ place a. (refl, (a, refl))) step e
 call-ways (Call.Receive time peer) l step e =
     let a = Receives.receive-accepted (l .table) (length (l .store)) (length (l .output)) time peer (l .given) step e in
     by-way l time peer step a (ways (l .table) (a .enters .fitting .formed) time peer (l .given))

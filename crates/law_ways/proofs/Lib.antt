@@ -1,3 +1,4 @@
 pub mod Ways
+pub mod ReceivedAbort
 pub mod CallWays
 pub mod NumberOne

@@ -6,6 +6,7 @@ use mathlib.Core.Logic.{_⊎_}
 use lib.ListN.{length}
 use lib.Dec.{eqb}
 use Rattle.base_layout.specs.Layout.{cellSize, timeBound, exitBound}
+use Rattle.codec_pdu.specs.declared.Kind.the-variants as Kind
 use Rattle.codec_reading.specs.Read.{pduOf}
 use Rattle.table_layout.specs.Table.{recordAt}
 use Rattle.row_events.specs.Events.{eventNumber}
@@ -63,6 +64,8 @@ pub record Lived (c : Call) (l : Lent) (step : Step) : Type 0 where
   pub live : LiveAt (l .table) place
   pub concerns : Concerns c l place
   pub comes : Comes c l place event given
+  pub time-is : given .time ≡ timeOf c
+  pub aborted : event ≡ Event.ReceivedAbort → pduOf (l .given) .kind ≡ Kind.Abort (given .kind) (given .reason)
   pub given-ok : GivenOk given
   pub lent-ok : Lends c l → LentOk l asked
   pub no-request : isRequest c ≡ false
