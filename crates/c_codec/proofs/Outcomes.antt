@@ -17,7 +17,7 @@ use Rattle.codec_reading.specs.Read.{pduOf}
 use Rattle.codec_words.specs.Words.{wordsOf}
 use Rattle.codec_writing.specs.Writing.{Done, done, written, writtenAnswer, outputAfter}
 use Rattle.codec_writing.specs.declared.Written.{Written}
-use Rattle.table_fresh.specs.Fresh.{Left, left, leftBy, freshAnswer, tableAfter}
+use Rattle.table_fresh.specs.Fresh.{Left, left, leftBy, freshAnswer, tableAfterFresh}
 use Rattle.table_fresh.specs.declared.Fresh.{Fresh}
 use Rattle.c_codec.specs.Calls.{kindNumber, readNumber, fieldsAfter}
 
@@ -54,6 +54,6 @@ unfolding written
 writing fields bytes out a o e = (ap (λ (d : Done). d .answer) e, ap (λ (d : Done). d .output) e)
 
 -- the fresh-table call's equation, part by part
-pub freshly : (t ws : List ℕ) (first : ℕ) (a : Fresh) (o : List ℕ) → left a o ≡ leftBy t ws first → (a ≡ freshAnswer (length t) ws first) × (o ≡ tableAfter (freshAnswer (length t) ws first) t ws first)
+pub freshly : (t ws : List ℕ) (first : ℕ) (a : Fresh) (o : List ℕ) → left a o ≡ leftBy t ws first → (a ≡ freshAnswer (length t) ws first) × (o ≡ tableAfterFresh (freshAnswer (length t) ws first) t ws first)
 unfolding leftBy
 freshly t ws first a o e = (ap (λ (l : Left). l .answer) e, ap (λ (l : Left). l .table) e)

@@ -3,7 +3,7 @@ ghost use mathlib.Core.Path.{_≡_};
 ghost use Prim.Native.Nat.{_≤_};
 ghost use lib.ListN.{length};
 ghost use Rattle.base_lists.specs.Seq.{put};
-ghost use Rattle.table_fresh.specs.Fresh.{freshAnswer, freshNumber, tableAfter};
+ghost use Rattle.table_fresh.specs.Fresh.{freshAnswer, freshNumber, tableAfterFresh};
 ghost use Rattle.c_codec.specs.Calls.{kindNumber, readNumber, fieldsAfter, writeNumber, writeOutput, writeAnswer, separateNumber, partAfter, joinNumber, joinOutput, joinAnswer, lengthAnswer};
 use base_numbers::Refusal;
 use codec_joining::Joining;
@@ -14,7 +14,7 @@ use table_fresh::Fresh;
 
 // Makes a table fresh.
 pub fn make_fresh(table: &mut [u8], settings: &[u64], first_tid: u64) -> u64
-    ensures { λ r. ⌜ (r ≡ freshNumber (freshAnswer (length (now (table .entry))) (now (settings .entry)) «first_tid»)) × (now (table .exit) ≡ tableAfter (freshAnswer (length (now (table .entry))) (now (settings .entry)) «first_tid») (now (table .entry)) (now (settings .entry)) «first_tid») ⌝ }
+    ensures { λ r. ⌜ (r ≡ freshNumber (freshAnswer (length (now (table .entry))) (now (settings .entry)) «first_tid»)) × (now (table .exit) ≡ tableAfterFresh (freshAnswer (length (now (table .entry))) (now (settings .entry)) «first_tid») (now (table .entry)) (now (settings .entry)) «first_tid») ⌝ }
 {
     match table_fresh::make_fresh(table, settings, first_tid) {
         Fresh::Made => 0,

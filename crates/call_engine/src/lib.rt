@@ -51,7 +51,7 @@ pub fn request(
         user_ack: user_ack,
         len: user.len(),
     };
-    let plan = call_request::planned(table, store.len(), output.len(), q);
+    let plan = call_request::request_plan(table, store.len(), output.len(), q);
     carried(table, store, output, user, &none[..0], plan)
 }
 
@@ -67,7 +67,7 @@ fn primitive(
     requires { ⌜ PlanReady (lent (now table) (now store) (now output) (now given) (now exit)) (primitivePlan (now table) (length (now store)) (length (now output)) p) ⌝ }
     ensures { λ r. ⌜ done r (now (table .exit)) (now (store .exit)) (now (output .exit)) ≡ outcome (lent (now (table .entry)) (now (store .entry)) (now (output .entry)) (now (given .entry)) (now (exit .entry))) (primitivePlan (now (table .entry)) (length (now (store .entry))) (length (now (output .entry))) p) ⌝ }
 {
-    let plan = call_primitive::planned(table, store.len(), output.len(), p);
+    let plan = call_primitive::primitive_plan(table, store.len(), output.len(), p);
     carried(table, store, output, given, exit, plan)
 }
 
@@ -165,7 +165,7 @@ pub fn receive(
     ensures { λ r. ⌜ done r (now (table .exit)) (now (store .exit)) (now (output .exit)) ≡ promised (Call.Receive time peer) (lent (now (table .entry)) (now (store .entry)) (now (output .entry)) (now (octets .entry)) []) ⌝ }
 {
     let none = [0u8; 1];
-    let plan = call_receive::planned(table, store.len(), output.len(), time, peer, octets);
+    let plan = call_receive::receive_plan(table, store.len(), output.len(), time, peer, octets);
     carried(table, store, output, octets, &none[..0], plan)
 }
 
@@ -174,7 +174,7 @@ pub fn timer(table: &mut [u8], store: &mut [u8], output: &mut [u8], time: u64) -
     ensures { λ r. ⌜ done r (now (table .exit)) (now (store .exit)) (now (output .exit)) ≡ promised (Call.Timer time) (lent (now (table .entry)) (now (store .entry)) (now (output .entry)) [] []) ⌝ }
 {
     let none = [0u8; 1];
-    let plan = call_timer::planned(table, store.len(), output.len(), time);
+    let plan = call_timer::timer_plan(table, store.len(), output.len(), time);
     let nothing = &none[..0];
     carried(table, store, output, nothing, nothing, plan)
 }

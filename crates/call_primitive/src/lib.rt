@@ -112,7 +112,7 @@ fn not_allowed(t: &[u8], found: Found, event: Event) -> bool
 }
 
 // The lowest of the numbers 4, 8, 9 that applies, with the named record found.
-fn judged_found(t: &[u8], found: Found, p: Primitive) -> Judged
+fn found_refusal(t: &[u8], found: Found, p: Primitive) -> Judged
     requires { ⌜ Within (now t) found ⌝ }
     ensures { λ r. ⌜ r ≡ lowest (foundTests (now (t .entry)) found p) ⌝ }
 {
@@ -130,7 +130,7 @@ fn judged_found(t: &[u8], found: Found, p: Primitive) -> Judged
 }
 
 // The step of an accepted primitive: of the record at this place.
-fn step_for(t: &[u8], place: usize, p: Primitive) -> Step
+fn primitive_step(t: &[u8], place: usize, p: Primitive) -> Step
     requires { ⌜ WellFormed (now t) ⌝ }
     requires { ⌜ Named (now t) p place ⌝ }
     requires { ⌜ (p .time ≤ timeBound) × (p .len ≤ cellSize) × (p .«exit_len» ≤ exitBound) ⌝ }
@@ -164,18 +164,18 @@ fn with_found(t: &[u8], found: Found, p: Primitive) -> Plan
     requires { ⌜ p .time ≤ timeBound ⌝ }
     ensures { λ r. ⌜ r ≡ foundPlan (now (t .entry)) found p ⌝ }
 {
-    match judged_found(t, found, p) {
+    match found_refusal(t, found, p) {
         Judged::Refuse(r) => Plan::Refuse(r),
         Judged::Accept => {
             let place = step_opening::place_for(found);
-            let step = step_for(t, place, p);
+            let step = primitive_step(t, place, p);
             Plan::Go(step)
         }
     }
 }
 
 // A primitive over a store and an output of these lengths.
-pub fn planned(t: &[u8], store: usize, output: usize, p: Primitive) -> Plan
+pub fn primitive_plan(t: &[u8], store: usize, output: usize, p: Primitive) -> Plan
     ensures { λ r. ⌜ r ≡ primitivePlan (now (t .entry)) store output p ⌝ }
 {
     match call_refusal::peer_entry(t, store, output, p.time, p.peer) {

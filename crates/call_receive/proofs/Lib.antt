@@ -2,5 +2,5 @@ pub mod Accepted
 pub mod Answered
 pub mod Dispatch
 pub mod Holders
-pub mod Kept
+pub mod KeptData
 pub mod Ways

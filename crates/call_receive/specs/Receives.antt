@@ -25,7 +25,7 @@ use Rattle.step_arrivals.specs.Arrivals.{nameOf, eventOf, causeOf, infoOf, want
 use Rattle.step_arrivals.specs.declared.Name.{Name}
 use Rattle.step_arrivals.specs.declared.Name.the-variants.{Nobody, Of}
 use Rattle.row_turns.specs.declared.Given.{Given}
-use Rattle.step_commit.specs.declared.Header.the-variants.{Kept}
+use Rattle.step_commit.specs.declared.TidChange.the-variants.{Unchanged}
 use Rattle.call_refusal.specs.Judging.{Test, test, lowest, planBy, peerTests}
 use Rattle.step_plan.specs.Steps.{noPart, idleStep}
 use Rattle.step_plan.specs.declared.Part.{Part}
@@ -94,7 +94,7 @@ unfoldable pub openedCall : Pdu → Call
 openedCall p = record { message = keptPart p; info = noPart; user = userPart p; tells = Nothing }
 
 unfoldable pub openedStep : List ℕ → Opening → Holder → ℕ → Pdu → Step
-openedStep t opening h time p = openingStep t opening h (openedGiven time p) Kept (openedCall p)
+openedStep t opening h time p = openingStep t opening h (openedGiven time p) Unchanged (openedCall p)
 
 -- the row of a PDU without a live record; one of its tests is "no free record"
 unfoldable pub arrivalOpening : List ℕ → ℕ → ℕ → List ℕ → Pdu → Opening

@@ -14,7 +14,7 @@ use codec_pdu::Pdu;
 use row_events::Opening;
 use row_turns::Given;
 use step_arrivals::Name;
-use step_commit::Header;
+use step_commit::TidChange;
 use step_plan::Call;
 use step_plan::Holder;
 use step_plan::Part;
@@ -37,7 +37,14 @@ fn wrong_length(len: usize) -> bool
 }
 
 // The lowest number that applies.
-fn judged(t: &[u8], store: usize, output: usize, time: u64, peer: u64, len: usize) -> Judged
+fn receive_refusal(
+    t: &[u8],
+    store: usize,
+    output: usize,
+    time: u64,
+    peer: u64,
+    len: usize,
+) -> Judged
     ensures { λ r. ⌜ r ≡ lowest (receiveTests (now (t .entry)) store output time peer len) ⌝ }
 {
     match call_refusal::peer_entry(t, store, output, time, peer) {
@@ -146,7 +153,7 @@ fn opened_by(t: &[u8], opening: Opening, h: Holder, time: u64, p: Pdu) -> Step
         },
         tells: Tells::Nothing,
     };
-    step_opening::opening_step(t, opening, h, g, Header::Kept, c)
+    step_opening::opening_step(t, opening, h, g, TidChange::Unchanged, c)
 }
 
 // A PDU without a live record.
@@ -179,7 +186,7 @@ fn naming(t: &[u8], role: Role, peer: u8, tid: u16, time: u64, s: &[u8]) -> Step
 }
 
 // The step of an accepted PDU.
-fn step_for(t: &[u8], time: u64, peer: u8, s: &[u8]) -> Step
+fn receive_step(t: &[u8], time: u64, peer: u8, s: &[u8]) -> Step
     requires { ⌜ WellFormed (now t) ⌝ }
     requires { ⌜ time ≤ timeBound ⌝ }
     ensures { λ r. ⌜ r ≡ receiveStep (now (t .entry)) time peer (now (s .entry)) ⌝ }
@@ -191,13 +198,13 @@ fn step_for(t: &[u8], time: u64, peer: u8, s: &[u8]) -> Step
 }
 
 // A PDU from a peer, over a store and an output of these lengths.
-pub fn planned(t: &[u8], store: usize, output: usize, time: u64, peer: u64, s: &[u8]) -> Plan
+pub fn receive_plan(t: &[u8], store: usize, output: usize, time: u64, peer: u64, s: &[u8]) -> Plan
     ensures { λ r. ⌜ r ≡ receivePlan (now (t .entry)) store output time peer (now (s .entry)) ⌝ }
 {
-    match judged(t, store, output, time, peer, s.len()) {
+    match receive_refusal(t, store, output, time, peer, s.len()) {
         Judged::Refuse(r) => Plan::Refuse(r),
         Judged::Accept => {
-            let step = step_for(t, time, (peer % 256) as u8, s);
+            let step = receive_step(t, time, (peer % 256) as u8, s);
             Plan::Go(step)
         }
     }

@@ -16,7 +16,7 @@ use Rattle.table_finding.specs.declared.Found.{Found}
 use Rattle.row_choice.specs.Rows.{requestedOf}
 use Rattle.table_tids.specs.Tids.{nextTid}
 use Rattle.row_turns.specs.declared.Given.{Given}
-use Rattle.step_commit.specs.declared.Header.the-variants.{Set}
+use Rattle.step_commit.specs.declared.TidChange.the-variants.{Set}
 use Rattle.call_refusal.specs.Judging.{Test, test, lowest, planBy, peerTests}
 use Rattle.step_plan.specs.Steps.{noPart}
 use Rattle.step_plan.specs.declared.Holder.{Holder}

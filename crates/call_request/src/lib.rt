@@ -9,7 +9,7 @@ ghost use Rattle.call_request.specs.Requests.{ownTests, noneFree, entryT
 use base_numbers::Refusal;
 use call_refusal::Judged;
 use row_turns::Given;
-use step_commit::Header;
+use step_commit::TidChange;
 use step_plan::Call;
 use step_plan::Holder;
 use step_plan::Part;
@@ -47,7 +47,7 @@ fn own_refusal(t: &[u8], q: Request) -> Judged
 }
 
 // The lowest of the numbers 1 to 6 that applies.
-fn judged(t: &[u8], store: usize, output: usize, q: Request) -> Judged
+fn request_refusal(t: &[u8], store: usize, output: usize, q: Request) -> Judged
     ensures { λ r. ⌜ r ≡ lowest (entryTests (now (t .entry)) store output q) ⌝ }
 {
     match call_refusal::peer_entry(t, store, output, q.time, q.peer) {
@@ -68,7 +68,7 @@ fn none_free(free: Found, class: u64) -> bool
 }
 
 // The step of an accepted request whose record is opened at this place.
-fn step_for(t: &[u8], place: usize, q: Request) -> Step
+fn request_step(t: &[u8], place: usize, q: Request) -> Step
     requires { ⌜ WellFormed (now t) ⌝ }
     requires { ⌜ place < recordsBound ⌝ }
     requires { ⌜ (q .time ≤ timeBound) × (q .len ≤ cellSize) ⌝ }
@@ -104,7 +104,7 @@ fn step_for(t: &[u8], place: usize, q: Request) -> Step
     };
     let next = table_tids::next_tid(tid);
     let opening = row_choice::requested(class);
-    step_opening::opening_step(t, opening, h, g, Header::Set(next), c)
+    step_opening::opening_step(t, opening, h, g, TidChange::Set(next), c)
 }
 
 // With the lowest free record found: number 7, or the step.
@@ -118,15 +118,15 @@ fn with_place(t: &[u8], free: Found, q: Request) -> Plan
         return Plan::Refuse(Refusal::TableFull);
     }
     let place = step_opening::place_for(free);
-    let step = step_for(t, place, q);
+    let step = request_step(t, place, q);
     Plan::Go(step)
 }
 
 // A request over a store and an output of these lengths.
-pub fn planned(t: &[u8], store: usize, output: usize, q: Request) -> Plan
+pub fn request_plan(t: &[u8], store: usize, output: usize, q: Request) -> Plan
     ensures { λ r. ⌜ r ≡ requestPlan (now (t .entry)) store output q ⌝ }
 {
-    match judged(t, store, output, q) {
+    match request_refusal(t, store, output, q) {
         Judged::Refuse(r) => Plan::Refuse(r),
         Judged::Accept => with_place(t, table_finding::free(t, table_layout::records(t)), q),
     }

@@ -14,7 +14,7 @@ use step_plan::Tells;
 use table_finding::Found;
 
 // The step of an accepted timer call: that of the due record, if there is one.
-fn step_for(t: &[u8], time: u64) -> Step
+fn timer_step(t: &[u8], time: u64) -> Step
     requires { ⌜ WellFormed (now t) ⌝ }
     requires { ⌜ time ≤ timeBound ⌝ }
     ensures { λ r. ⌜ r ≡ timerStep (now (t .entry)) time ⌝ }
@@ -42,13 +42,13 @@ fn step_for(t: &[u8], time: u64) -> Step
 }
 
 // The timer call over a store and an output of these lengths.
-pub fn planned(t: &[u8], store: usize, output: usize, time: u64) -> Plan
+pub fn timer_plan(t: &[u8], store: usize, output: usize, time: u64) -> Plan
     ensures { λ r. ⌜ r ≡ timerPlan (now (t .entry)) store output time ⌝ }
 {
     match call_refusal::entry(t, store, output, time) {
         Judged::Refuse(r) => Plan::Refuse(r),
         Judged::Accept => {
-            let step = step_for(t, time);
+            let step = timer_step(t, time);
             Plan::Go(step)
         }
     }

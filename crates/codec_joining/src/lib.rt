@@ -50,7 +50,7 @@ fn fits(n: usize, left: usize, room: usize) -> bool
 }
 
 // What joining answers. It stops at the first PDU that can't be joined, so no sum passes its bound.
-fn planned(bytes: &[u8], lengths: &[u64]) -> Joining
+fn joining_plan(bytes: &[u8], lengths: &[u64]) -> Joining
     ensures { λ r. ⌜ r ≡ plannedAnswer (now (bytes .entry)) (now (lengths .entry)) ⌝ }
 {
     if lengths.len() == 0 {
@@ -125,7 +125,7 @@ pub fn join(bytes: &[u8], lengths: &[u64], out: &mut [u8]) -> Joining
     if out.len() < base_layout::DATAGRAM_BOUND {
         return Joining::Refused(Refusal::WrongSize);
     }
-    match planned(bytes, lengths) {
+    match joining_plan(bytes, lengths) {
         Joining::Refused(r) => Joining::Refused(r),
         Joining::Length(n) => {
             write(bytes, lengths, out);

@@ -253,7 +253,7 @@ fn fault_in(n: u64, p: Pdu) -> Verdict
 }
 
 // The PDU that the words say, with its parts in `bytes` octets; or why it isn't written.
-pub fn judged(words: &[u64], bytes: usize) -> Pdu
+pub fn judged_words(words: &[u64], bytes: usize) -> Pdu
     requires { ⌜ 88 ≤ length (now words) ⌝ }
     ensures { λ r. ⌜ r ≡ judgedOf (now (words .entry)) bytes ⌝ }
 {

@@ -14,7 +14,7 @@ pub enum Written {
 }
 
 // The PDU to be written, with its parts in `bytes` octets and room for `room`; or why it isn't.
-fn planned(fields: &[u64], bytes: usize, room: usize) -> Pdu
+fn writing_plan(fields: &[u64], bytes: usize, room: usize) -> Pdu
     ensures { λ r. ⌜ r ≡ planOf (now (fields .entry)) bytes room ⌝ }
 {
     if fields.len() < 88 {
@@ -23,7 +23,7 @@ fn planned(fields: &[u64], bytes: usize, room: usize) -> Pdu
     if room < base_layout::DATAGRAM_BOUND {
         return codec_pdu::blank(Kind::Refused(Refusal::WrongSize));
     }
-    codec_verdict::judged(fields, bytes)
+    codec_verdict::judged_words(fields, bytes)
 }
 
 // What is given back for a kind and the length of its PDU.
@@ -47,7 +47,7 @@ fn answer(kind: Kind, len: usize) -> Written
 pub fn write(fields: &[u64], bytes: &[u8], out: &mut [u8]) -> Written
     ensures { λ r. ⌜ done r (now (out .exit)) ≡ written (now (fields .entry)) (now (bytes .entry)) (now (out .entry)) ⌝ }
 {
-    let p = planned(fields, bytes.len(), out.len());
+    let p = writing_plan(fields, bytes.len(), out.len());
     let kind = p.kind;
     if codec_pdu::sound(kind) {
         let len = codec_encoding::put_pdu(out, bytes, p);

@@ -9,7 +9,7 @@ use lib.Dec.{eqb}
 use Rattle.base_lists.specs.Seq.{pick}
 use Rattle.table_record.specs.Record.{stateNumber}
 use Rattle.table_record.specs.declared.Record.{Record}
-use Rattle.table_layout.specs.Table.{settingsOf, rowsOf, recordAt}
+use Rattle.table_layout.specs.Table.{settingsOf, intervalsOf, recordAt}
 use Rattle.table_record_ok.specs.OneRecord.{Live, InRange}
 use Rattle.row_turns.specs.Turns.{newRecord}
 use Rattle.step_commit.specs.declared.Change.the-variants.{Nothing, Put, Clear}
@@ -63,7 +63,7 @@ module _ (c : Call) (l : Lent) (step : Step) (lends : Lends c l) (goes : planFor
   -- a live record that took an event: by the row's timer, with the state and the RCR that it then has
   pub deadline-live : (k : TakenBy c l step) → Live (recordAt (tableLeft c l) (k .place))
       → recordAt (tableLeft c l) (k .place) .deadline
-      ≡ deadlineBy (timerOf (rowAt (l .table) (k .place) (k .event))) (recordAt (l .table) (k .place) .deadline) (timeOf c) (settingsOf (l .table)) (rowsOf (l .table)) (recordAt (tableLeft c l) (k .place))
+      ≡ deadlineBy (timerOf (rowAt (l .table) (k .place) (k .event))) (recordAt (l .table) (k .place) .deadline) (timeOf c) (settingsOf (l .table)) (intervalsOf (l .table)) (recordAt (tableLeft c l) (k .place))
   unfolding liveStep liveTurn stepOf turnChanges changeOf
   deadline-live k live = go (eqb (stateNumber (x .state)) 0) refl
     where
@@ -83,7 +83,7 @@ module _ (c : Call) (l : Lent) (step : Step) (lends : Lends c l) (goes : planFor
       place-is = ap (λ (y : Step). y .changes .place) (k .step-is)
 
       go : (b : Bool) → eqb (stateNumber (x .state)) 0 ≡ b
-          → recordAt (tableLeft c l) (k .place) .deadline ≡ deadlineBy (timerOf (rowAt t (k .place) (k .event))) (r .deadline) (timeOf c) (settingsOf t) (rowsOf t) (recordAt (tableLeft c l) (k .place))
+          → recordAt (tableLeft c l) (k .place) .deadline ≡ deadlineBy (timerOf (rowAt t (k .place) (k .event))) (r .deadline) (timeOf c) (settingsOf t) (intervalsOf t) (recordAt (tableLeft c l) (k .place))
       go true e =
           let free : stateNumber (recordAt (tableLeft c l) (k .place) .state) ≡ 0 =
           ap (λ (n : ℕ). stateNumber (recordAt (tableLeft c l) n .state)) (sym place-is) ∙ gone (change-is ∙ ap (λ (b : Bool). pick b Clear (Put x)) e) in
@@ -92,15 +92,15 @@ module _ (c : Call) (l : Lent) (step : Step) (lends : Lends c l) (goes : planFor
           let put : step .changes .change ≡ Put x = change-is ∙ ap (λ (b : Bool). pick b Clear (Put x)) e in
           let is : recordAt (tableLeft c l) (k .place) ≡ x = ap (λ (n : ℕ). recordAt (tableLeft c l) n) (sym place-is) ∙ there x put in
           let lives : 1 ≤ stateNumber (x .state) = omega (arith, eqb-false (stateNumber (x .state)) 0 e) in
-          let named : x .deadline ≡ deadlineBy (timerOf (rowAt t (k .place) (k .event))) (r .deadline) (timeOf c) (settingsOf t) (rowsOf t) x =
-          row-deadline (k .given) (settingsOf t) (rowsOf t) r (rowAt t (k .place) (k .event)) lives (small x (ranged x put))
-          ∙ ap (λ (n : ℕ). deadlineBy (timerOf (rowAt t (k .place) (k .event))) (r .deadline) n (settingsOf t) (rowsOf t) x) (k .time) in
+          let named : x .deadline ≡ deadlineBy (timerOf (rowAt t (k .place) (k .event))) (r .deadline) (timeOf c) (settingsOf t) (intervalsOf t) x =
+          row-deadline (k .given) (settingsOf t) (intervalsOf t) r (rowAt t (k .place) (k .event)) lives (small x (ranged x put))
+          ∙ ap (λ (n : ℕ). deadlineBy (timerOf (rowAt t (k .place) (k .event))) (r .deadline) n (settingsOf t) (intervalsOf t) x) (k .time) in
           rw is named
 
   -- a record that is opened: by the opening's timer
   pub deadline-opening : (k : ComesAlone c l step) → Live (openedTurn (l .table) (k .opening) (k .holder) (k .given) .after)
       → recordAt (tableLeft c l) (k .holder .place) .deadline
-      ≡ deadlineBy (openingTimer (k .opening)) 0 (timeOf c) (settingsOf (l .table)) (rowsOf (l .table)) (recordAt (tableLeft c l) (k .holder .place))
+      ≡ deadlineBy (openingTimer (k .opening)) 0 (timeOf c) (settingsOf (l .table)) (intervalsOf (l .table)) (recordAt (tableLeft c l) (k .holder .place))
   unfolding openingStep openedTurn stepOf openingChanges changeOf newRecord
   deadline-opening k live =
       let t : List ℕ = l .table in
@@ -110,9 +110,9 @@ module _ (c : Call) (l : Lent) (step : Step) (lends : Lends c l) (goes : planFor
       let put : step .changes .change ≡ Put x = change-is ∙ ap (λ (b : Bool). pick b Nothing (Put x)) other in
       let place-is : step .changes .place ≡ k .holder .place = ap (λ (y : Step). y .changes .place) (k .step-is) in
       let is : recordAt (tableLeft c l) (k .holder .place) ≡ x = ap (λ (n : ℕ). recordAt (tableLeft c l) n) (sym place-is) ∙ there x put in
-      let named : x .deadline ≡ deadlineBy (openingTimer (k .opening)) 0 (timeOf c) (settingsOf t) (rowsOf t) x =
-      opening-deadline (k .given) (settingsOf t) (rowsOf t) (newRecord (k .holder .peer) (k .holder .tid) (k .holder .up)) (k .opening) live (small x (ranged x put))
-      ∙ ap (λ (n : ℕ). deadlineBy (openingTimer (k .opening)) 0 n (settingsOf t) (rowsOf t) x) (k .time) in
+      let named : x .deadline ≡ deadlineBy (openingTimer (k .opening)) 0 (timeOf c) (settingsOf t) (intervalsOf t) x =
+      opening-deadline (k .given) (settingsOf t) (intervalsOf t) (newRecord (k .holder .peer) (k .holder .tid) (k .holder .up)) (k .opening) live (small x (ranged x put))
+      ∙ ap (λ (n : ℕ). deadlineBy (openingTimer (k .opening)) 0 n (settingsOf t) (intervalsOf t) x) (k .time) in
       rw is named
 
   -- nothing but the time: every record is the same

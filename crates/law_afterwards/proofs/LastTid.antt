@@ -14,8 +14,8 @@ use Rattle.row_columns.specs.declared.Cache.{Cache}
 use Rattle.row_columns.specs.declared.Cache.the-variants as Cache
 use Rattle.row_columns.specs.declared.Act.{Act}
 use Rattle.row_turns.specs.Turns.{turnOf, rowTurn, openingTurn}
-use Rattle.step_commit.specs.declared.Header.{Header}
-use Rattle.step_commit.specs.declared.Header.the-variants.{Kept, Set}
+use Rattle.step_commit.specs.declared.TidChange.{TidChange}
+use Rattle.step_commit.specs.declared.TidChange.the-variants.{Unchanged, Set}
 use Rattle.step_changes.specs.Changes.{cachedAfter, turnChanges}
 use Rattle.step_plan.specs.Steps.{stepOf, idleChanges, idleStep}
 use Rattle.step_plan.specs.declared.Step.{Step}
@@ -44,7 +44,7 @@ named Cache.Same cached tid = refl
 named Cache.Set cached tid = refl
 named Cache.SetIfNone cached tid = go (eqb cached 0)
   where
-    go : (b : Bool) → headerThen (pick b (Set (tid + 1)) Kept) cached ≡ pick b (tid + 1) cached
+    go : (b : Bool) → headerThen (pick b (Set (tid + 1)) Unchanged) cached ≡ pick b (tid + 1) cached
     go true = refl
     go false = refl
 
@@ -83,11 +83,11 @@ module _ (c : Call) (l : Lent) (step : Step) (lends : Lends c l) (goes : planFor
   unfolding outcome carriedOut tableThen PlanSound idleStep idleChanges
   last-tid-idle e peer h = go (equal-or peer (step .changes .peer))
     where
-      kept : step .changes .cached ≡ Kept
+      kept : step .changes .cached ≡ Unchanged
       kept = ap (λ (y : Step). y .changes .cached) e
 
       go : (peer ≡ step .changes .peer) ⊎ (peer ≡ step .changes .peer → ⊥) → cachedOf (tableLeft c l) peer ≡ cachedOf (l .table) peer
-      go (inl d) = rw d (left ∙ ap (λ (x : Header). headerThen x (cachedOf (l .table) (step .changes .peer))) kept)
+      go (inl d) = rw d (left ∙ ap (λ (x : TidChange). headerThen x (cachedOf (l .table) (step .changes .peer))) kept)
       go (inr d) =
           let s : Sound l step = rw goes at (call-sound c l lends) in
           ap (λ (y : Done). cachedOf (y .table) peer) (as-planned c l ∙ ap (outcome l) goes)

@@ -20,11 +20,11 @@ use Rattle.table_record_ok.proofs.States.{state-octet}
 use Rattle.table_well_formed.specs.WellFormed.{WellFormed}
 use Rattle.law_formed_kept.proofs.InRecord.{equal-or}
 use Rattle.law_formed_kept.proofs.Keeps.{range-fits}
-use Rattle.step_commit.specs.Commit.{recordChanged, exitStored, genTidChanged, cacheChanged, tableAfter}
+use Rattle.step_commit.specs.Commit.{recordChanged, exitStored, genTidChanged, cacheChanged, tableChanged}
 use Rattle.step_commit.specs.declared.Change.{Change}
 use Rattle.step_commit.specs.declared.Change.the-variants.{Nothing, Put, Clear}
-use Rattle.step_commit.specs.declared.Header.{Header}
-use Rattle.step_commit.specs.declared.Header.the-variants.{Kept, Set}
+use Rattle.step_commit.specs.declared.TidChange.{TidChange}
+use Rattle.step_commit.specs.declared.TidChange.the-variants.{Unchanged, Set}
 use Rattle.step_commit.specs.declared.Changes.{Changes}
 use Rattle.step_commit.proofs.Length.{length-after, length-clock}
 use Rattle.law_commit.specs.Allowed.{ChangeOk, SetOk, Allowed}
@@ -43,14 +43,14 @@ module _ {A : Type 0} (f : List ℕ → A) (at n : ℕ) (apart : (t : List ℕ) 
   past-exit t place true exit h = apart t (exitBase place) exit (inl h)
   past-exit t place false exit h = refl
 
-  past-gen-tid : (t : List ℕ) (c : Header) → 10 ≤ at → f (genTidChanged t c) ≡ f t
+  past-gen-tid : (t : List ℕ) (c : TidChange) → 10 ≤ at → f (genTidChanged t c) ≡ f t
   unfolding genTidChanged putGenTid
-  past-gen-tid t Kept h = refl
+  past-gen-tid t Unchanged h = refl
   past-gen-tid t (Set v) h = apart t 8 (enc 2 v) (inr (omega (arith, length-enc 2 v)))
 
-  past-cached : (t : List ℕ) (peer : ℕ) (c : Header) → Apart at n (cachedAt + peer * 2) 2 → f (cacheChanged t peer c) ≡ f t
+  past-cached : (t : List ℕ) (peer : ℕ) (c : TidChange) → Apart at n (cachedAt + peer * 2) 2 → f (cacheChanged t peer c) ≡ f t
   unfolding cacheChanged putCached
-  past-cached t peer Kept h = refl
+  past-cached t peer Unchanged h = refl
   past-cached t peer (Set v) h = apart t (cachedAt + peer * 2) (enc 2 v) (rw (length-enc 2 v) h)
 
   past-clock : (t : List ℕ) (time : ℕ) → 8 ≤ at → f (putClock t time) ≡ f t
@@ -58,8 +58,8 @@ module _ {A : Type 0} (f : List ℕ → A) (at n : ℕ) (apart : (t : List ℕ) 
   past-clock t time h = apart t 0 (enc 8 time) (inr (omega (arith, length-enc 8 time)))
 
 -- a number of the header, as it is set or kept
-abbrev pub headerThen : Header → ℕ → ℕ
-headerThen Kept was = was
+abbrev pub headerThen : TidChange → ℕ → ℕ
+headerThen Unchanged was = was
 headerThen (Set v) was = v
 
 module _ (t : List ℕ) (c : Changes) (exit : List ℕ) (w : WellFormed t) (ok : Allowed t c exit) where
@@ -71,26 +71,26 @@ module _ (t : List ℕ) (c : Changes) (exit : List ℕ) (w : WellFormed t) (ok :
 
   -- the changes but for the header's
   abbrev inRecord : Changes
-  inRecord = record { place = c .place; change = c .change; exit = c .exit; «gen_tid» = Kept; peer = c .peer; cached = Kept; time = c .time }
+  inRecord = record { place = c .place; change = c .change; exit = c .exit; «gen_tid» = Unchanged; peer = c .peer; cached = Unchanged; time = c .time }
 
   abbrev butCached : Changes
-  butCached = record { place = c .place; change = c .change; exit = c .exit; «gen_tid» = c .«gen_tid»; peer = c .peer; cached = Kept; time = c .time }
+  butCached = record { place = c .place; change = c .change; exit = c .exit; «gen_tid» = c .«gen_tid»; peer = c .peer; cached = Unchanged; time = c .time }
 
   sized₂ : headerSize ≤ length t₂
-  unfolding tableAfter genTidChanged cacheChanged
+  unfolding tableChanged genTidChanged cacheChanged
   sized₂ = omega (arith, length-clock t₂ (c .time), length-after t inRecord exit, w .sized .whole)
 
   sized₃ : headerSize ≤ length t₃
-  unfolding tableAfter cacheChanged
+  unfolding tableChanged cacheChanged
   sized₃ = omega (arith, length-clock t₃ (c .time), length-after t butCached exit, w .sized .whole)
 
-  gen-tid-set : (h : Header) → SetOk tidBound h → genTidOf (genTidChanged t₂ h) ≡ headerThen h (genTidOf t₂)
+  gen-tid-set : (h : TidChange) → SetOk tidBound h → genTidOf (genTidChanged t₂ h) ≡ headerThen h (genTidOf t₂)
   unfolding genTidChanged SetOk
-  gen-tid-set Kept k = refl
+  gen-tid-set Unchanged k = refl
   gen-tid-set (Set v) k = gen-tid-same t₂ v sized₂ (omega arith)
 
-  pub gen-tid-left : genTidOf (tableAfter t c exit) ≡ headerThen (c .«gen_tid») (genTidOf t)
-  unfolding tableAfter
+  pub gen-tid-left : genTidOf (tableChanged t c exit) ≡ headerThen (c .«gen_tid») (genTidOf t)
+  unfolding tableChanged
   gen-tid-left =
       let before : genTidOf t₂ ≡ genTidOf t = past-exit genTidOf 8 2 gen-tid-apart _ (c .place) (c .exit) exit (omega arith) ∙ past-record genTidOf 8 2 gen-tid-apart t (c .place) (c .change) (omega arith) in
       past-clock genTidOf 8 2 gen-tid-apart _ (c .time) (omega arith)
@@ -98,9 +98,9 @@ module _ (t : List ℕ) (c : Changes) (exit : List ℕ) (w : WellFormed t) (ok :
       ∙ gen-tid-set (c .«gen_tid») (ok .gen-tid)
       ∙ ap (headerThen (c .«gen_tid»)) before
 
-  cached-set : (h : Header) → SetOk cachedBound h → cachedOf (cacheChanged t₃ (c .peer) h) (c .peer) ≡ headerThen h (cachedOf t₃ (c .peer))
+  cached-set : (h : TidChange) → SetOk cachedBound h → cachedOf (cacheChanged t₃ (c .peer) h) (c .peer) ≡ headerThen h (cachedOf t₃ (c .peer))
   unfolding cacheChanged SetOk
-  cached-set Kept k = refl
+  cached-set Unchanged k = refl
   cached-set (Set v) k = cached-same t₃ (c .peer) v sized₃ (ok .peer) (omega arith)
 
   abbrev cachedHere : List ℕ → ℕ
@@ -109,8 +109,8 @@ module _ (t : List ℕ) (c : Changes) (exit : List ℕ) (w : WellFormed t) (ok :
   cached-seen : (x : List ℕ) (b : ℕ) (o : List ℕ) → Apart (cachedAt + c .peer * 2) 2 b (length o) → cachedHere (put x b o) ≡ cachedHere x
   cached-seen x b o h = cached-apart x b o (c .peer) h
 
-  pub cached-left : cachedOf (tableAfter t c exit) (c .peer) ≡ headerThen (c .cached) (cachedOf t (c .peer))
-  unfolding tableAfter
+  pub cached-left : cachedOf (tableChanged t c exit) (c .peer) ≡ headerThen (c .cached) (cachedOf t (c .peer))
+  unfolding tableChanged
   cached-left =
       let at : ℕ = cachedAt + c .peer * 2 in
       let before : cachedHere t₃ ≡ cachedHere t =
@@ -127,8 +127,8 @@ module _ (t : List ℕ) (c : Changes) (exit : List ℕ) (w : WellFormed t) (ok :
   record-seen : (x : List ℕ) (b : ℕ) (o : List ℕ) → Apart (base (c .place)) fieldsSize b (length o) → recordHere (put x b o) ≡ recordHere x
   record-seen x b o h = record-apart x b o (c .place) h
 
-  at-place : recordHere (tableAfter t c exit) ≡ recordHere (recordChanged t (c .place) (c .change))
-  unfolding tableAfter
+  at-place : recordHere (tableChanged t c exit) ≡ recordHere (recordChanged t (c .place) (c .change))
+  unfolding tableChanged
   at-place =
       past-clock recordHere (base (c .place)) fieldsSize record-seen _ (c .time) (omega arith)
       ∙ past-cached recordHere (base (c .place)) fieldsSize record-seen t₃ (c .peer) (c .cached) (inr (omega (arith, ok .peer)))
@@ -138,13 +138,13 @@ module _ (t : List ℕ) (c : Changes) (exit : List ℕ) (w : WellFormed t) (ok :
   room : base (c .place) + recordSize ≤ length t
   room = omega (arith, w .sized .whole, ok .place)
 
-  pub put-left : (r : Record) → c .change ≡ Put r → recordHere (tableAfter t c exit) ≡ r
+  pub put-left : (r : Record) → c .change ≡ Put r → recordHere (tableChanged t c exit) ≡ r
   unfolding recordChanged ChangeOk
   put-left r e =
       let k : ChangeOk t (c .place) (Put r) (c .exit) = rw e at (ok .change) in
       at-place ∙ (ap (λ (x : Change). recordHere (recordChanged t (c .place) x)) e ∙ record-same t (c .place) r room (range-fits (settingsOf t) r (k .0)))
 
-  pub cleared-left : c .change ≡ Clear → recordHere (tableAfter t c exit) .state ≡ Free
+  pub cleared-left : c .change ≡ Clear → recordHere (tableChanged t c exit) .state ≡ Free
   unfolding recordChanged clearRecord stateOf
   cleared-left e =
       let z : List ℕ = replicate recordSize 0 in
@@ -155,13 +155,13 @@ module _ (t : List ℕ) (c : Changes) (exit : List ℕ) (w : WellFormed t) (ok :
       ∙ (ap (λ (x : Change). recordHere (recordChanged t (c .place) x) .state) e ∙ (state-octet (put t (base (c .place)) z) (c .place) ∙ ap stateOf octet))
 
   -- where the changes name no record every one is as it was
-  pub none-left : c .change ≡ Nothing → (j : ℕ) → recordAt (tableAfter t c exit) j ≡ recordAt t j
+  pub none-left : c .change ≡ Nothing → (j : ℕ) → recordAt (tableChanged t c exit) j ≡ recordAt t j
   unfolding recordChanged
   none-left e j = go (equal-or j (c .place))
     where
-      here : recordHere (tableAfter t c exit) ≡ recordHere t
+      here : recordHere (tableChanged t c exit) ≡ recordHere t
       here = at-place ∙ ap (λ (x : Change). recordHere (recordChanged t (c .place) x)) e
 
-      go : (j ≡ c .place) ⊎ (j ≡ c .place → ⊥) → recordAt (tableAfter t c exit) j ≡ recordAt t j
+      go : (j ≡ c .place) ⊎ (j ≡ c .place → ⊥) → recordAt (tableChanged t c exit) j ≡ recordAt t j
       go (inl d) = rw d here
       go (inr d) = commit-frames t c exit w ok .other-records j d

@@ -9,7 +9,7 @@ use Rattle.table_tids.specs.Tids.{nextTid}
 use Rattle.table_finding.specs.Finding.{freeOf}
 use Rattle.table_well_formed.specs.WellFormed.{WellFormed}
 use Rattle.row_choice.specs.Rows.{requestedOf}
-use Rattle.step_commit.specs.declared.Header.the-variants.{Kept, Set}
+use Rattle.step_commit.specs.declared.TidChange.the-variants.{Unchanged, Set}
 use Rattle.step_opening.specs.Opens.{placeFor}
 use Rattle.step_plan.specs.declared.Step.{Step}
 use Rattle.step_plan.specs.declared.Plan.the-variants.{Go}
@@ -44,7 +44,7 @@ module _ (c : Call) (l : Lent) (step : Step) where
     opening = arrivalOpening (l .table) (a .peer) (a .unmatched .tid) (l .given) (pduOf (l .given));
     holder = arriverOf (placeFor (freeOf (l .table) (count (l .table)))) (a .unmatched .role) (a .peer) (a .unmatched .tid) (pduOf (l .given) .kind);
     given = openedGiven (a .time) (pduOf (l .given));
-    genTid = Kept;
+    genTid = Unchanged;
     asked = openedCall (pduOf (l .given));
     step-is = a .step-is;
     time = ap timeOf (sym (a .call-is));

@@ -20,10 +20,10 @@ use Rattle.table_finding.specs.declared.Found.{Found}
 use Rattle.table_finding.specs.declared.Found.the-variants as Found
 use Rattle.step_commit.specs.declared.Change.{Change}
 use Rattle.step_commit.specs.declared.Change.the-variants.{Nothing, Put, Clear}
-use Rattle.step_commit.specs.declared.Header.{Header}
-use Rattle.step_commit.specs.declared.Header.the-variants.{Kept, Set}
+use Rattle.step_commit.specs.declared.TidChange.{TidChange}
+use Rattle.step_commit.specs.declared.TidChange.the-variants.{Unchanged, Set}
 use Rattle.step_commit.specs.declared.Changes.{Changes}
-use Rattle.step_commit.specs.Commit.{recordChanged, exitStored, genTidChanged, cacheChanged, tableAfter}
+use Rattle.step_commit.specs.Commit.{recordChanged, exitStored, genTidChanged, cacheChanged, tableChanged}
 use Rattle.step_changes.specs.Changes.{turnChanges}
 use Rattle.step_plan.specs.Steps.{stepOf, idleChanges, idleStep}
 use Rattle.step_plan.specs.declared.Step.{Step}
@@ -59,9 +59,9 @@ unfolding exitStored
 exit-keeps t place true exit = past t (exitBase place) exit (omega arith)
 exit-keeps t place false exit = refl
 
-cached-keeps : (t : List ℕ) (peer : ℕ) (c : Header) → genTidOf (cacheChanged t peer c) ≡ genTidOf t
+cached-keeps : (t : List ℕ) (peer : ℕ) (c : TidChange) → genTidOf (cacheChanged t peer c) ≡ genTidOf t
 unfolding cacheChanged putCached
-cached-keeps t peer Kept = refl
+cached-keeps t peer Unchanged = refl
 cached-keeps t peer (Set v) = past t (cachedAt + peer * 2) (enc 2 v) (omega arith)
 
 clock-keeps : (t : List ℕ) (time : ℕ) → genTidOf (putClock t time) ≡ genTidOf t
@@ -69,11 +69,11 @@ unfolding putClock
 clock-keeps t time = gen-tid-apart t 0 (enc 8 time) (inr (omega (arith, length-enc 8 time)))
 
 -- whatever else a step changes, GenTID is as its own column says
-after-changes : (t : List ℕ) (c : Changes) (exit : List ℕ) → genTidOf (tableAfter t c exit) ≡ genTidOf (genTidChanged (exitStored (recordChanged t (c .place) (c .change)) (c .place) (c .exit) exit) (c .«gen_tid»))
-unfolding tableAfter
+after-changes : (t : List ℕ) (c : Changes) (exit : List ℕ) → genTidOf (tableChanged t c exit) ≡ genTidOf (genTidChanged (exitStored (recordChanged t (c .place) (c .change)) (c .place) (c .exit) exit) (c .«gen_tid»))
+unfolding tableChanged
 after-changes t c exit = clock-keeps _ (c .time) ∙ cached-keeps _ (c .peer) (c .cached)
 
-pub step-keeps-gen-tid : (l : Lent) (step : Step) → step .changes .«gen_tid» ≡ Kept → genTidOf (carriedOut l step .table) ≡ genTidOf (l .table)
+pub step-keeps-gen-tid : (l : Lent) (step : Step) → step .changes .«gen_tid» ≡ Unchanged → genTidOf (carriedOut l step .table) ≡ genTidOf (l .table)
 unfolding carriedOut tableThen genTidChanged
 step-keeps-gen-tid l step e =
     after-changes (l .table) (step .changes) (l .exit)
@@ -81,7 +81,7 @@ step-keeps-gen-tid l step e =
 
 -- a step that leaves GenTID
 abbrev Leaves : Step → Type 0
-Leaves step = step .changes .«gen_tid» ≡ Kept
+Leaves step = step .changes .«gen_tid» ≡ Unchanged
 
 pub step-leaves : (c : Call) (l : Lent) (step : Step) → isRequest c ≡ false → Way c l step → Leaves step
 unfolding idleStep idleChanges liveStep stepOf turnChanges unmatchedStep openedStep openingStep openingChanges

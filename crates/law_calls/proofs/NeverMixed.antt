@@ -27,7 +27,7 @@ use Rattle.step_shown.specs.Shows.{shownOf, placeOf}
 use Rattle.step_shown.specs.declared.Place.{Place}
 use Rattle.step_shown.specs.declared.Shown.{Shown}
 use Rattle.step_shown.specs.declared.Shown.the-variants as Shown
-use Rattle.step_commit.specs.declared.Header.the-variants.{Kept, Set}
+use Rattle.step_commit.specs.declared.TidChange.the-variants.{Unchanged, Set}
 use Rattle.step_opening.specs.Opens.{placeFor}
 use Rattle.step_plan.specs.declared.Holder.{Holder}
 use Rattle.step_plan.specs.Steps.{placeIn, contextOf, idleStep}
@@ -73,7 +73,7 @@ unmatched-apart : (t : List ℕ) (role : Role) (peer tid time : ℕ) (s : List �
 unfolding unmatchedStep openedStep
 unmatched-apart t role peer tid time s p =
     let h : Holder = arriverOf (placeFor (freeOf t (count t))) role peer tid (p .kind) in
-    quiet (unmatchedStep t role peer tid time s p) (opening-neither t (arrivalOpening t peer tid s p) h (openedGiven time p) Kept (openedCall p))
+    quiet (unmatchedStep t role peer tid time s p) (opening-neither t (arrivalOpening t peer tid s p) h (openedGiven time p) Unchanged (openedCall p))
 
 -- the step of any accepted call
 pub step-apart : (c : Call) (l : Lent) (step : Step) → Way c l step → Apart step

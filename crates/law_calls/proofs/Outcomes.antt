@@ -9,7 +9,7 @@ use Rattle.step_outcome.specs.Carry.{Lent, Done, done, outcome}
 use Rattle.step_outcome.specs.declared.Answer.{Answer}
 use Rattle.call_plans.specs.Calls.{Call, promised, Lends, planFor}
 use Rattle.law_steps_sound.specs.Sound.{Fits}
-use Rattle.law_plans_sound.specs.Plans.{PlanSound, Untouched, Kept, StillFits}
+use Rattle.law_plans_sound.specs.Plans.{PlanSound, Untouched, RestUnchanged, StillFits}
 use Rattle.law_plans_sound.proofs.Outcome.{refused-untouched, step-keeps, still-fits}
 use Rattle.law_plans_sound.proofs.CallSound.{call-sound}
 
@@ -35,7 +35,7 @@ unfolding promised
 call-refused c l r e = rw e (refused-untouched l r)
 
 -- FRAME: an accepted call changes no record but the one at its step's place
-pub call-keeps : (c : Call) (l : Lent) (step : Step) → Lends c l → Fits l → planFor c l ≡ Go step → Kept l (promised c l) step
+pub call-keeps : (c : Call) (l : Lent) (step : Step) → Lends c l → Fits l → planFor c l ≡ Go step → RestUnchanged l (promised c l) step
 unfolding promised outcome PlanSound
 call-keeps c l step k f e =
     let s : PlanSound l (Go step) = rw e at (call-sound c l k) in

@@ -12,16 +12,16 @@ use Rattle.base_octets.specs.Octets.{enc}
 use Rattle.base_octets.proofs.StoredAndRead.{Apart, apart-rows, length-enc}
 use Rattle.table_record.specs.Record.{octetsOf}
 use Rattle.table_record.proofs.Back.{length-octets}
-use Rattle.table_layout.specs.Table.{settingsOf, rowsOf, cachedOf, recordAt, putRecord, clearRecord, putGenTid, putCached, putClock}
+use Rattle.table_layout.specs.Table.{settingsOf, intervalsOf, cachedOf, recordAt, putRecord, clearRecord, putGenTid, putCached, putClock}
 use Rattle.table_layout.proofs.Apart.{settings-apart, rows-apart, cached-apart, record-apart}
 use Rattle.table_layout.proofs.Put.{apart-records, clock-same}
 use Rattle.table_well_formed.specs.WellFormed.{WellFormed}
 use Rattle.step_commit.specs.declared.Change.{Change}
 use Rattle.step_commit.specs.declared.Change.the-variants.{Nothing, Put, Clear}
-use Rattle.step_commit.specs.declared.Header.{Header}
-use Rattle.step_commit.specs.declared.Header.the-variants.{Kept, Set}
+use Rattle.step_commit.specs.declared.TidChange.{TidChange}
+use Rattle.step_commit.specs.declared.TidChange.the-variants.{Unchanged, Set}
 use Rattle.step_commit.specs.declared.Changes.{Changes}
-use Rattle.step_commit.specs.Commit.{recordChanged, exitStored, genTidChanged, cacheChanged, tableAfter}
+use Rattle.step_commit.specs.Commit.{recordChanged, exitStored, genTidChanged, cacheChanged, tableChanged}
 use Rattle.step_commit.proofs.Length.{length-clock, length-after}
 use Rattle.law_commit.specs.Allowed.{Allowed, Framed}
 
@@ -29,7 +29,7 @@ use Rattle.law_commit.specs.Allowed.{Allowed, Framed}
 record Same (place peer : ℕ) (t u : List ℕ) : Type 0 where
   other-records : (j : ℕ) → (j ≡ place → ⊥) → recordAt u j ≡ recordAt t j
   settings : settingsOf u ≡ settingsOf t
-  rows : rowsOf u ≡ rowsOf t
+  rows : intervalsOf u ≡ intervalsOf t
   other-peers : (p : ℕ) → p < peers → (p ≡ peer → ⊥) → cachedOf u p ≡ cachedOf t p
 
 module _ (place peer : ℕ) where
@@ -78,16 +78,16 @@ module _ (place peer : ℕ) where
   exit-same t true exit h = in-record t exitOffset exit (omega arith)
   exit-same t false exit h = itself t
 
-  gen-tid-same : (t : List ℕ) (c : Header) → Same place peer t (genTidChanged t c)
+  gen-tid-same : (t : List ℕ) (c : TidChange) → Same place peer t (genTidChanged t c)
   unfolding genTidChanged putGenTid
-  gen-tid-same t Kept = itself t
+  gen-tid-same t Unchanged = itself t
   gen-tid-same t (Set v) =
       let n : length (enc 2 v) ≡ 2 = length-enc 2 v in
       stored t 8 (enc 2 v) (λ j d. inr (omega arith)) (inr (omega arith)) (λ p h d. inr (omega arith))
 
-  cached-same : (t : List ℕ) (c : Header) → peer < peers → Same place peer t (cacheChanged t peer c)
+  cached-same : (t : List ℕ) (c : TidChange) → peer < peers → Same place peer t (cacheChanged t peer c)
   unfolding cacheChanged putCached
-  cached-same t Kept l = itself t
+  cached-same t Unchanged l = itself t
   cached-same t (Set v) l =
       let n : length (enc 2 v) ≡ 2 = length-enc 2 v in
       stored t (cachedAt + peer * 2) (enc 2 v) (λ j d. inr (omega arith)) (inl (omega arith)) (λ p h d. rw n (apart-rows cachedAt 2 p peer d))
@@ -98,8 +98,8 @@ module _ (place peer : ℕ) where
       let n : length (enc 8 v) ≡ 8 = length-enc 8 v in
       stored t 0 (enc 8 v) (λ j d. inr (omega arith)) (inr (omega arith)) (λ p h d. inr (omega arith))
 
-pub commit-frames : (t : List ℕ) (c : Changes) (exit : List ℕ) → WellFormed t → Allowed t c exit → Framed t (tableAfter t c exit) c
-unfolding tableAfter
+pub commit-frames : (t : List ℕ) (c : Changes) (exit : List ℕ) → WellFormed t → Allowed t c exit → Framed t (tableChanged t c exit) c
+unfolding tableChanged
 commit-frames t c exit w ok =
     let i : ℕ = c .place in
     let p : ℕ = c .peer in

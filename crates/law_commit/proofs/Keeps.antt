@@ -15,10 +15,10 @@ use Rattle.law_formed_kept.proofs.InHeader.{clock-keeps, gen-tid-keeps, cached-
 use Rattle.law_formed_kept.proofs.Keeps.{range-fits, put-keeps, clear-keeps, exit-keeps}
 use Rattle.step_commit.specs.declared.Change.{Change}
 use Rattle.step_commit.specs.declared.Change.the-variants.{Nothing, Put, Clear}
-use Rattle.step_commit.specs.declared.Header.{Header}
-use Rattle.step_commit.specs.declared.Header.the-variants.{Kept, Set}
+use Rattle.step_commit.specs.declared.TidChange.{TidChange}
+use Rattle.step_commit.specs.declared.TidChange.the-variants.{Unchanged, Set}
 use Rattle.step_commit.specs.declared.Changes.{Changes}
-use Rattle.step_commit.specs.Commit.{recordChanged, exitStored, genTidChanged, cacheChanged, tableAfter}
+use Rattle.step_commit.specs.Commit.{recordChanged, exitStored, genTidChanged, cacheChanged, tableChanged}
 use Rattle.step_commit.proofs.Length.{length-changed}
 use Rattle.law_commit.specs.Allowed.{ChangeOk, SetOk, Allowed}
 
@@ -48,18 +48,18 @@ unfolding exitStored
 exit-part t place true exit w h live fits = exit-keeps t place exit w h (live refl) fits
 exit-part t place false exit w h live fits = w
 
-gen-tid-part : (t : List ℕ) (c : Header) → WellFormed t → SetOk tidBound c → WellFormed (genTidChanged t c)
+gen-tid-part : (t : List ℕ) (c : TidChange) → WellFormed t → SetOk tidBound c → WellFormed (genTidChanged t c)
 unfolding genTidChanged SetOk
-gen-tid-part t Kept w ok = w
+gen-tid-part t Unchanged w ok = w
 gen-tid-part t (Set v) w ok = gen-tid-keeps t v w ok
 
-cached-part : (t : List ℕ) (peer : ℕ) (c : Header) → WellFormed t → peer < peers → SetOk cachedBound c → WellFormed (cacheChanged t peer c)
+cached-part : (t : List ℕ) (peer : ℕ) (c : TidChange) → WellFormed t → peer < peers → SetOk cachedBound c → WellFormed (cacheChanged t peer c)
 unfolding cacheChanged SetOk
-cached-part t peer Kept w h ok = w
+cached-part t peer Unchanged w h ok = w
 cached-part t peer (Set v) w h ok = cached-keeps t peer v w h ok
 
-pub commit-keeps : (t : List ℕ) (c : Changes) (exit : List ℕ) → WellFormed t → Allowed t c exit → WellFormed (tableAfter t c exit)
-unfolding tableAfter
+pub commit-keeps : (t : List ℕ) (c : Changes) (exit : List ℕ) → WellFormed t → Allowed t c exit → WellFormed (tableChanged t c exit)
+unfolding tableChanged
 commit-keeps t c exit w ok =
     let changed : List ℕ = recordChanged t (c .place) (c .change) in
     let w₁ : WellFormed changed = change-keeps t (c .place) w (ok .place) (c .change) (c .exit) (ok .change) in

@@ -6,13 +6,13 @@ use mathlib.Core.Bool.{Bool, true, false}
 use lib.ListN.{length}
 use Rattle.base_layout.specs.Layout.{timeBound, tidBound, cachedBound, peers, exitBound}
 use Rattle.table_record.specs.declared.Record.{Record}
-use Rattle.table_layout.specs.Table.{count, settingsOf, rowsOf, cachedOf, recordAt, clockOf}
+use Rattle.table_layout.specs.Table.{count, settingsOf, intervalsOf, cachedOf, recordAt, clockOf}
 use Rattle.table_record_ok.specs.OneRecord.{InRange}
-use Rattle.law_formed_kept.specs.Kept.{Unused}
+use Rattle.law_formed_kept.specs.UnusedName.{Unused}
 use Rattle.step_commit.specs.declared.Change.{Change}
 use Rattle.step_commit.specs.declared.Change.the-variants.{Nothing, Put, Clear}
-use Rattle.step_commit.specs.declared.Header.{Header}
-use Rattle.step_commit.specs.declared.Header.the-variants.{Kept, Set}
+use Rattle.step_commit.specs.declared.TidChange.{TidChange}
+use Rattle.step_commit.specs.declared.TidChange.the-variants.{Unchanged, Set}
 use Rattle.step_commit.specs.declared.Changes.{Changes}
 
 -- a record that is put is in range, and no other live record has its role, peer and TID; exit information is stored only with one
@@ -22,8 +22,8 @@ ChangeOk t place (Put r) exit = InRange (settingsOf t) r × Unused t place r
 ChangeOk t place Clear exit = exit ≡ false
 
 -- a number of the header that is set is in its range
-unfoldable pub SetOk : ℕ → Header → Type 0
-SetOk most Kept = Unit
+unfoldable pub SetOk : ℕ → TidChange → Type 0
+SetOk most Unchanged = Unit
 SetOk most (Set v) = v ≤ most
 
 -- the changes of an accepted call
@@ -41,6 +41,6 @@ pub record Framed (t after : List ℕ) (c : Changes) : Type 0 where
   pub same-length : length after ≡ length t
   pub other-records : (j : ℕ) → (j ≡ c .place → ⊥) → recordAt after j ≡ recordAt t j
   pub settings : settingsOf after ≡ settingsOf t
-  pub rows : rowsOf after ≡ rowsOf t
+  pub rows : intervalsOf after ≡ intervalsOf t
   pub other-peers : (p : ℕ) → p < peers → (p ≡ c .peer → ⊥) → cachedOf after p ≡ cachedOf t p
   pub clock : clockOf after ≡ c .time

@@ -20,7 +20,7 @@ use Rattle.step_plan.specs.declared.Plan.{Plan}
 use Rattle.step_plan.specs.declared.Plan.the-variants.{Go}
 use Rattle.step_outcome.specs.Carry.{Lent, Done, CellFits, cellWritten, tableThen, storeThen, carriedOut, outcome}
 use Rattle.law_steps_sound.specs.Sound.{Fits, Sound}
-use Rattle.law_plans_sound.specs.Plans.{PlanSound, OutsideMessage, Kept}
+use Rattle.law_plans_sound.specs.Plans.{PlanSound, OutsideMessage, RestUnchanged}
 use Rattle.law_plans_sound.proofs.Outcome.{step-keeps, still-fits}
 use Rattle.call_plans.specs.Calls.{planFor, promised}
 use Rattle.law_plans_sound.proofs.CallSound.{call-sound}
@@ -56,7 +56,7 @@ module _ (store given : List ℕ) (place : ℕ) (m : Part) where
       rw e (ap (λ (k : ℕ). part (put store (place * cellSize) w) (place * cellSize) k) (sym n) ∙ part-written store (place * cellSize) w (omega (arith, f .0)))
 
 module _ (l : Lent) (step : Step) (f : Fits l) (small : step .message .len ≤ cellSize) (ok : Sound l step) where
-  abbrev kept : Kept l (carriedOut l step) step
+  abbrev kept : RestUnchanged l (carriedOut l step) step
   kept = step-keeps l step f ok
 
   same-size : length (storeThen l step) ≡ length (l .store)

@@ -18,11 +18,11 @@ use Rattle.table_layout.proofs.Apart.{record-apart}
 use Rattle.table_layout.proofs.Put.{record-same}
 use Rattle.table_well_formed.specs.WellFormed.{WellFormed}
 use Rattle.law_formed_kept.proofs.Keeps.{range-fits}
-use Rattle.step_commit.specs.Commit.{recordChanged, exitStored, genTidChanged, cacheChanged, tableAfter}
+use Rattle.step_commit.specs.Commit.{recordChanged, exitStored, genTidChanged, cacheChanged, tableChanged}
 use Rattle.step_commit.specs.declared.Change.{Change}
 use Rattle.step_commit.specs.declared.Change.the-variants.{Nothing, Put, Clear}
-use Rattle.step_commit.specs.declared.Header.{Header}
-use Rattle.step_commit.specs.declared.Header.the-variants.{Kept, Set}
+use Rattle.step_commit.specs.declared.TidChange.{TidChange}
+use Rattle.step_commit.specs.declared.TidChange.the-variants.{Unchanged, Set}
 use Rattle.step_commit.specs.declared.Changes.{Changes}
 use Rattle.law_commit.specs.Allowed.{ChangeOk, Allowed}
 
@@ -32,16 +32,16 @@ module _ (i : ℕ) where
   exit-leaves t true exit = record-apart t (exitBase i) exit i (inl (omega arith))
   exit-leaves t false exit = refl
 
-  gen-tid-leaves : (t : List ℕ) (c : Header) → recordAt (genTidChanged t c) i ≡ recordAt t i
+  gen-tid-leaves : (t : List ℕ) (c : TidChange) → recordAt (genTidChanged t c) i ≡ recordAt t i
   unfolding genTidChanged putGenTid
-  gen-tid-leaves t Kept = refl
+  gen-tid-leaves t Unchanged = refl
   gen-tid-leaves t (Set v) =
       let n : length (enc 2 v) ≡ 2 = length-enc 2 v in
       record-apart t 8 (enc 2 v) i (inr (omega arith))
 
-  cached-leaves : (t : List ℕ) (peer : ℕ) (c : Header) → peer < peers → recordAt (cacheChanged t peer c) i ≡ recordAt t i
+  cached-leaves : (t : List ℕ) (peer : ℕ) (c : TidChange) → peer < peers → recordAt (cacheChanged t peer c) i ≡ recordAt t i
   unfolding cacheChanged putCached
-  cached-leaves t peer Kept h = refl
+  cached-leaves t peer Unchanged h = refl
   cached-leaves t peer (Set v) h =
       let n : length (enc 2 v) ≡ 2 = length-enc 2 v in
       record-apart t (cachedAt + peer * 2) (enc 2 v) i (inr (omega arith))
@@ -63,10 +63,10 @@ cleared t i h =
 
 module _ (t : List ℕ) (c : Changes) (exit : List ℕ) (w : WellFormed t) (ok : Allowed t c exit) where
   abbrev after : Record
-  after = recordAt (tableAfter t c exit) (c .place)
+  after = recordAt (tableChanged t c exit) (c .place)
 
   only-changed : after ≡ recordAt (recordChanged t (c .place) (c .change)) (c .place)
-  unfolding tableAfter
+  unfolding tableChanged
   only-changed = clock-leaves (c .place) _ (c .time) ∙ (cached-leaves (c .place) _ (c .peer) (c .cached) (ok .peer) ∙ (gen-tid-leaves (c .place) _ (c .«gen_tid») ∙ exit-leaves (c .place) _ (c .exit) exit))
 
   as-changed : (x : Change) → c .change ≡ x → after ≡ recordAt (recordChanged t (c .place) x) (c .place)

@@ -28,8 +28,8 @@ use Rattle.row_choice.specs.Rows.{requestedOf}
 use Rattle.step_arrivals.specs.Arrivals.{arrivedOf}
 use Rattle.row_turns.specs.declared.Given.{Given}
 use Rattle.row_turns.specs.declared.Turn.{Turn}
-use Rattle.step_commit.specs.declared.Header.{Header}
-use Rattle.step_commit.specs.declared.Header.the-variants.{Kept, Set}
+use Rattle.step_commit.specs.declared.TidChange.{TidChange}
+use Rattle.step_commit.specs.declared.TidChange.the-variants.{Unchanged, Set}
 use Rattle.step_changes.specs.Changes.{changeOf, turnChanges}
 use Rattle.step_opening.specs.Opens.{openedTurn, openingChanges, openingStep}
 use Rattle.step_live.specs.Turning.{liveTurn, liveStep}
@@ -160,7 +160,7 @@ module _ (e : Entry) (h : List Entry) (was : CellsHold (before e) (e .lent .stor
             still-holds place (turn .cell) (left .inside) (rw there s) (unwritten-cell place (left .unwritten (s .unwritten))) w
 
   -- an opening's turn; where it leads to TIDOK WAIT is said apart
-  module _ (opening : Opening) (holder : Holder) (g : Given) (genTid : Header) (c : Asked) (left : Left (e .lent) (openingStep (before e) opening holder g genTid c) (e .done)) where
+  module _ (opening : Opening) (holder : Holder) (g : Given) (genTid : TidChange) (c : Asked) (left : Left (e .lent) (openingStep (before e) opening holder g genTid c) (e .done)) where
     abbrev opened : Turn
     opened = openedTurn (before e) opening holder g
 
@@ -204,9 +204,9 @@ module _ (e : Entry) (h : List Entry) (was : CellsHold (before e) (e .lent .stor
         let short : ltb cellSize (p .len) ≡ false = arrival-fits _ .short v in
         rw short refl
 
-    arrived-holds : Left (e .lent) (openingStep (before e) arrives arriver (openedGiven time p) Kept (openedCall p)) (e .done) → Holds (arriver .place)
+    arrived-holds : Left (e .lent) (openingStep (before e) arrives arriver (openedGiven time p) Unchanged (openedCall p)) (e .done) → Holds (arriver .place)
     unfolding openingStep stepOf openingChanges arriverOf openedGiven openedCall userPart
-    arrived-holds left = opening-holds arrives arriver (openedGiven time p) Kept (openedCall p) left verified
+    arrived-holds left = opening-holds arrives arriver (openedGiven time p) Unchanged (openedCall p) left verified
       where
         verified : Verifies arrives (openedTurn (before e) arrives arriver (openedGiven time p)) (openedGiven time p .len)
             → 1 ≤ stateNumber (openedTurn (before e) arrives arriver (openedGiven time p) .after .state) → Holds (arriver .place)

@@ -25,7 +25,7 @@ use Rattle.row_turns.specs.Turns.{turnOf, openingTurn}
 use Rattle.row_turns.specs.declared.Given.{Given}
 use Rattle.row_turns.specs.declared.Turn.{Turn}
 use Rattle.step_commit.specs.declared.Changes.{Changes}
-use Rattle.step_commit.specs.declared.Header.the-variants.{Kept}
+use Rattle.step_commit.specs.declared.TidChange.the-variants.{Unchanged}
 use Rattle.step_opening.specs.Opens.{openedTurn, openingStep}
 use Rattle.step_live.specs.Turning.{holderOf, liveTurn, liveStep}
 use Rattle.step_shown.specs.Kinds.{byKind}
@@ -180,7 +180,7 @@ module _ (peer tid class : ℕ) (up : Bool) (place : Place) where
       opened = turn e time from called u
 
       abbrev arrived : Step
-      arrived = openingStep (before e) arrives arriver (openedGiven time p) Kept (openedCall p)
+      arrived = openingStep (before e) arrives arriver (openedGiven time p) Unchanged (openedCall p)
 
       its-shown : StepShows arrived invoke → InvokeOf opened arriver (openedCall p)
       unfolding openingStep

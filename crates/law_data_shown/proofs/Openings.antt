@@ -17,7 +17,7 @@ use Rattle.table_record.specs.declared.State.{State}
 use Rattle.table_record.specs.declared.Record.{Record}
 use Rattle.codec_pdu.specs.declared.Pdu.{Pdu}
 use Rattle.codec_reading.specs.Read.{typeOf, pduOf}
-use Rattle.table_layout.specs.Table.{count, recordAt, settingsOf, rowsOf}
+use Rattle.table_layout.specs.Table.{count, recordAt, settingsOf, intervalsOf}
 use Rattle.table_finding.specs.Finding.{freeOf}
 use Rattle.table_finding.proofs.Tests.{Called}
 use Rattle.table_finding.proofs.Searches.{NoneOf}
@@ -33,8 +33,8 @@ use Rattle.row_turns.specs.declared.Given.{Given}
 use Rattle.row_turns.specs.declared.Turn.{Turn}
 use Rattle.step_commit.specs.declared.Change.{Change}
 use Rattle.step_commit.specs.declared.Change.the-variants as Change
-use Rattle.step_commit.specs.declared.Header.{Header}
-use Rattle.step_commit.specs.declared.Header.the-variants.{Kept}
+use Rattle.step_commit.specs.declared.TidChange.{TidChange}
+use Rattle.step_commit.specs.declared.TidChange.the-variants.{Unchanged}
 use Rattle.step_changes.specs.Changes.{changeOf}
 use Rattle.step_opening.specs.Opens.{placeFor, openedTurn, openingChanges, openingStep}
 use Rattle.step_plan.specs.Steps.{stepOf}
@@ -137,7 +137,7 @@ requested-one P a b c class = picked P (eqb class 0) _ _ (λ e. a) (λ e. picked
 
 -- ---- the change of an opening
 
-module _ (t : List ℕ) (opening : Opening) (h : Holder) (g : Given) (genTid : Header) (c : Asked) where
+module _ (t : List ℕ) (opening : Opening) (h : Holder) (g : Given) (genTid : TidChange) (c : Asked) where
   abbrev opened : Record
   opened = openedTurn t opening h g .after
 
@@ -225,18 +225,18 @@ module _ (e : Entry) (time peer : ℕ) (called : e .call ≡ Call.Receive time p
 
   of-opening : classOf (turn .after .state) ≡ opensClass opening
   unfolding openedTurn
-  of-opening = opened-class _ (openedGiven time p) (settingsOf t) (rowsOf t) opening
+  of-opening = opened-class _ (openedGiven time p) (settingsOf t) (intervalsOf t) opening
 
   pub some-opened : 1 ≤ stateNumber (turn .after .state) → 1 ≤ opensClass opening
   some-opened live = rw of-opening at (class-some (turn .after .state) live)
 
-  module _ (left : Left (e .lent) (openingStep t opening holder (openedGiven time p) Kept (openedCall p)) (e .done)) (live : 1 ≤ stateNumber (turn .after .state)) where
+  module _ (left : Left (e .lent) (openingStep t opening holder (openedGiven time p) Unchanged (openedCall p)) (e .done)) (live : 1 ≤ stateNumber (turn .after .state)) where
     abbrev place : ℕ
     place = placeFor (freeOf t (count t))
 
     there-is : recordAt (e .done .table) place ≡ turn .after
     unfolding openingStep stepOf openingChanges arriverOf
-    there-is = left .put-is (turn .after) (opening-puts t opening holder (openedGiven time p) Kept (openedCall p) (live-tested (turn .after .state) live))
+    there-is = left .put-is (turn .after) (opening-puts t opening holder (openedGiven time p) Unchanged (openedCall p) (live-tested (turn .after .state) live))
 
     inside : place < count (e .done .table)
     unfolding openingStep stepOf openingChanges arriverOf
@@ -244,7 +244,7 @@ module _ (e : Entry) (time peer : ℕ) (called : e .call ≡ Call.Receive time p
 
     named : OpenedAs opening (newRecord peer (u .tid) (holder .up)) (turn .after)
     unfolding openedTurn arriverOf
-    named = opened-as opening (newRecord peer (u .tid) _) (openedGiven time p) (settingsOf t) (rowsOf t) live
+    named = opened-as opening (newRecord peer (u .tid) _) (openedGiven time p) (settingsOf t) (intervalsOf t) live
 
     responds-so : openedRole opening ≡ Responder
     unfolding arrivalOpening
@@ -258,7 +258,7 @@ module _ (e : Entry) (time peer : ℕ) (called : e .call ≡ Call.Receive time p
 
     same-ack : turn .after .«user_ack» ≡ holder .up
     unfolding openedTurn newRecord
-    same-ack = opened-ack _ (openedGiven time p) (settingsOf t) (rowsOf t) opening some-class
+    same-ack = opened-ack _ (openedGiven time p) (settingsOf t) (intervalsOf t) opening some-class
 
     called-so : (r : Record) → r ≡ turn .after → Called Responder peer (u .tid) r
     unfolding newRecord

@@ -18,7 +18,7 @@ use Rattle.codec_reading.specs.Read.{pduOf}
 use Rattle.table_layout.specs.Table.{recordAt}
 use Rattle.row_events.specs.declared.Opening.{Opening}
 use Rattle.row_turns.specs.declared.Given.{Given}
-use Rattle.step_commit.specs.declared.Header.{Header}
+use Rattle.step_commit.specs.declared.TidChange.{TidChange}
 use Rattle.law_rows.specs.Shown.{takesResult}
 use Rattle.step_shown.specs.Parts.{dataOf}
 use Rattle.step_shown.specs.declared.Source.the-variants.{Datagram}
@@ -36,7 +36,7 @@ use Rattle.step_live.specs.Turning.{holderOf, liveStep}
 use Rattle.step_opening.specs.Opens.{openingStep}
 use Rattle.call_request.specs.Requests.{requestStep}
 use Rattle.call_receive.specs.Receives.{userPart, takenCall, openedStep, unmatchedStep}
-use Rattle.call_receive.proofs.Kept.{user-inside}
+use Rattle.call_receive.proofs.KeptData.{user-inside}
 use Rattle.step_outcome.specs.Carry.{Done, carriedOut, outcome}
 use Rattle.law_never_mixed.specs.NeverMixed.{stepResults, stepAborts, resultShown}
 use Rattle.law_never_mixed.proofs.Steps.{live-result-exactly, opening-neither}
@@ -85,7 +85,7 @@ module _ (peer tid : ℕ) (place : Place) where
   none-shown : (step : Step) → (stepAborts step || stepResults step) ≡ false → StepShows step result → ⊥
   none-shown step n e = true-false (sym (or-second (stepAborts step) (stepResults step) (results step e)) ∙ n)
 
-  opening-none : (t : List ℕ) (opening : Opening) (h : Holder) (g : Given) (genTid : Header) (c : Asked) → StepShows (openingStep t opening h g genTid c) result → ⊥
+  opening-none : (t : List ℕ) (opening : Opening) (h : Holder) (g : Given) (genTid : TidChange) (c : Asked) → StepShows (openingStep t opening h g genTid c) result → ⊥
   opening-none t opening h g genTid c s = none-shown (openingStep t opening h g genTid c) (opening-neither t opening h g genTid c) s
 
   state-is : (s : State) → eqb (stateNumber s) (stateNumber IResultWait2) ≡ true → s ≡ IResultWait2

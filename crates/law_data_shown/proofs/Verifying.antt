@@ -11,7 +11,7 @@ use Rattle.base_lists.proofs.StoresAndParts.{true-false, both-fst, both-snd}
 use Rattle.table_record.specs.Record.{classOf, stateNumber, stateOf}
 use Rattle.table_record.specs.declared.State.{State}
 use Rattle.table_record.specs.declared.Record.{Record}
-use Rattle.table_layout.specs.Table.{recordAt, settingsOf, rowsOf}
+use Rattle.table_layout.specs.Table.{recordAt, settingsOf, intervalsOf}
 use Rattle.table_layout.specs.declared.Settings.{Settings}
 use Rattle.row_events.specs.declared.Event.{Event}
 use Rattle.row_events.specs.declared.Conditions.{Conditions}
@@ -114,7 +114,7 @@ module _ (t : List ℕ) (place : ℕ) (event : Event) (g : Given) where
 
   pub live-stays : inTidokWait (liveTurn t place event g .after .state) ≡ true → StillWaits r (liveTurn t place event g .after) (liveTurn t place event g .cell)
   unfolding liveTurn rowAt rowTurn turnOf
-  live-stays e = still act r g (settingsOf t) (rowsOf t) (act .next) (both-snd (fromCell (r .state) (act .cell) (act .second)) _ later) e
+  live-stays e = still act r g (settingsOf t) (intervalsOf t) (act .next) (both-snd (fromCell (r .state) (act .cell) (act .second)) _ later) e
 
 -- ---- an opening's turn
 

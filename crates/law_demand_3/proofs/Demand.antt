@@ -3,7 +3,7 @@ use Prim.Native.Nat.{ℕ}
 use mathlib.Core.Path.{_≡_, sym, _∙_}
 use mathlib.Core.List.{List, []}
 use lib.ListN.{length, getD}
-use Rattle.table_fresh.specs.Fresh.{freshAnswer, tableAfter}
+use Rattle.table_fresh.specs.Fresh.{freshAnswer, tableAfterFresh}
 use Rattle.table_fresh.specs.declared.Fresh.the-variants.{Made}
 use Rattle.law_fresh_formed.specs.FreshOk.{FreshOk}
 use Rattle.law_fresh_formed.proofs.Formed.{fresh-ok}
@@ -41,10 +41,10 @@ demand-3-from max inv cells run =
 
 -- from a table made fresh, with RCR_MAX its first setting
 pub demand-3-holds : (old settings : List ℕ) (first : ℕ) → freshAnswer (length old) settings first ≡ Made
-    → {s₀ t s : List ℕ} {h : List Entry} → Run (tableAfter Made old settings first) s₀ t s h → Demand3 (getD settings 0 0) t h
+    → {s₀ t s : List ℕ} {h : List Entry} → Run (tableAfterFresh Made old settings first) s₀ t s h → Demand3 (getD settings 0 0) t h
 demand-3-holds old settings first made {s₀} run =
-    let fresh : FreshOk old (tableAfter Made old settings first) first = fresh-ok old settings first made in
-    demand-3-from (getD settings 0 0) (made-inv old settings first made) (cells-of-none (tableAfter Made old settings first) s₀ (fresh .no-record)) run
+    let fresh : FreshOk old (tableAfterFresh Made old settings first) first = fresh-ok old settings first made in
+    demand-3-from (getD settings 0 0) (made-inv old settings first made) (cells-of-none (tableAfterFresh Made old settings first) s₀ (fresh .no-record)) run
 
 -- an empty result shown means that a Result PDU with empty data was taken
 pub empty-result-taken : (e : Entry) → Promise e → (peer tid : ℕ) (place : Place) → Shows e (Shown.Result peer tid place)

@@ -15,7 +15,7 @@ use Rattle.table_record.specs.Record.{roleOf, classOf, stateNumber}
 use Rattle.table_record.specs.declared.Record.{Record}
 use Rattle.table_record.specs.declared.State.{State}
 use Rattle.table_record.specs.declared.State.the-variants.{Free}
-use Rattle.table_layout.specs.Table.{count, genTidOf, recordAt, settingsOf, rowsOf}
+use Rattle.table_layout.specs.Table.{count, genTidOf, recordAt, settingsOf, intervalsOf}
 use Rattle.table_tids.specs.Tids.{nextTid}
 use Rattle.table_finding.specs.Finding.{freeOf}
 use Rattle.table_finding.proofs.Searches.{free-found}
@@ -26,10 +26,10 @@ use Rattle.row_columns.specs.declared.Next.the-variants.{Ends}
 use Rattle.row_entries.specs.Acts.{openingAct}
 use Rattle.row_turns.specs.Turns.{newRecord}
 use Rattle.row_turns.specs.declared.Given.{Given}
-use Rattle.step_commit.specs.Commit.{tableAfter}
+use Rattle.step_commit.specs.Commit.{tableChanged}
 use Rattle.step_commit.specs.declared.Change.the-variants as Change
-use Rattle.step_commit.specs.declared.Header.{Header}
-use Rattle.step_commit.specs.declared.Header.the-variants.{Kept, Set}
+use Rattle.step_commit.specs.declared.TidChange.{TidChange}
+use Rattle.step_commit.specs.declared.TidChange.the-variants.{Unchanged, Set}
 use Rattle.step_changes.specs.Changes.{turnChanges}
 use Rattle.step_plan.specs.Steps as Steps
 use Rattle.step_plan.specs.Steps.{stepOf, idleChanges, idleStep}
@@ -51,7 +51,7 @@ use Rattle.call_plans.specs.Calls.{Call, asRequest, planFor, promised, peerIn, 
 use Rattle.law_steps_sound.specs.Sound.{Sound}
 use Rattle.call_plans.specs.Concerns.{fires}
 use Rattle.law_ways.proofs.Ways.{Known, Idle, Lived, Requested, Arrived, Way}
-use Rattle.law_plans_sound.specs.Plans.{Kept as StepKept}
+use Rattle.law_plans_sound.specs.Plans as Plans
 use Rattle.law_plans_sound.proofs.CallSound.{way-sound}
 use Rattle.law_plans_sound.proofs.Openings.{OpenedAs, opened-as}
 use Rattle.law_plans_sound.proofs.Requests.{requested-role}
@@ -96,7 +96,7 @@ module _ (e : Entry) (p : Promise e) (step : Step) (is : planFor (e .call) (e .l
   unfolding outcome
   carried = done-is e p (Go step) is
 
-  table-is : after e ≡ tableAfter (before e) (step .changes) (e .lent .exit)
+  table-is : after e ≡ tableChanged (before e) (step .changes) (e .lent .exit)
   unfolding carriedOut tableThen
   table-is = ap (λ (d : Done). d .table) carried
 
@@ -104,8 +104,8 @@ module _ (e : Entry) (p : Promise e) (step : Step) (is : planFor (e .call) (e .l
   unfolding carriedOut
   told-is = ap (λ (d : Done). toldOf (d .answer)) carried
 
-  kept : StepKept (e .lent) (e .done) step
-  kept = subst (λ (d : Done). StepKept (e .lent) d step) (sym (p .keeps)) (call-keeps (e .call) (e .lent) step (p .lends) (f .accepted .fits) is)
+  kept : Plans.RestUnchanged (e .lent) (e .done) step
+  kept = subst (λ (d : Done). Plans.RestUnchanged (e .lent) d step) (sym (p .keeps)) (call-keeps (e .call) (e .lent) step (p .lends) (f .accepted .fits) is)
 
   none-changed : step .changes .change ≡ Change.Nothing → step .changes .exit ≡ false → step .cell ≡ false → NoneChanged e
   none-changed change exit cell = record {
@@ -126,20 +126,20 @@ module _ (e : Entry) (p : Promise e) (step : Step) (is : planFor (e .call) (e .l
   }
 
   -- the header, where the cached TID that changes is that of the call's peer
-  header-kept : (step .changes .cached ≡ Kept) ⊎ (step .changes .peer ≡ peerOf (e .call) (e .done .answer)) → HeaderKept e
+  header-kept : (step .changes .cached ≡ Unchanged) ⊎ (step .changes .peer ≡ peerOf (e .call) (e .done .answer)) → HeaderKept e
   header-kept peer k past inside gen cached =
       ap (λ (t : List ℕ). getD t k 0) table-is
       ∙ header-octets k (before e) (step .changes) (e .lent .exit) (sound .allowed .exit-fits) (sound .allowed .peer) past inside (gen-tid gen) (of-peer peer)
     where
-      gen-tid : (isRequest (e .call) ≡ false) ⊎ (rcrMaxAt ≤ k) → (step .changes .«gen_tid» ≡ Kept) ⊎ (rcrMaxAt ≤ k)
+      gen-tid : (isRequest (e .call) ≡ false) ⊎ (rcrMaxAt ≤ k) → (step .changes .«gen_tid» ≡ Unchanged) ⊎ (rcrMaxAt ≤ k)
       gen-tid (inl r) = inl (step-leaves (e .call) (e .lent) step r (f .accepted .way))
       gen-tid (inr h) = inr h
 
-      of-peer : (step .changes .cached ≡ Kept) ⊎ (step .changes .peer ≡ peerOf (e .call) (e .done .answer)) → (step .changes .cached ≡ Kept) ⊎ OutsideCached (step .changes .peer) k
+      of-peer : (step .changes .cached ≡ Unchanged) ⊎ (step .changes .peer ≡ peerOf (e .call) (e .done .answer)) → (step .changes .cached ≡ Unchanged) ⊎ OutsideCached (step .changes .peer) k
       of-peer (inl c) = inl c
       of-peer (inr q) = inr (rw q cached)
 
-  framed : (step .changes .cached ≡ Kept) ⊎ (step .changes .peer ≡ peerOf (e .call) (e .done .answer)) → Records e → (h : List Entry) → Framed e h
+  framed : (step .changes .cached ≡ Unchanged) ⊎ (step .changes .peer ≡ peerOf (e .call) (e .done .answer)) → Records e → (h : List Entry) → Framed e h
   framed peer records h = record { lengths = (f .left .same-length, f .left .same-store); header = header-kept peer; records = records }
 
   -- the call only stores its time
@@ -171,7 +171,7 @@ module _ (e : Entry) (p : Promise e) (step : Step) (is : planFor (e .call) (e .l
     lived-framed = framed (inr lived-peer) (inr (k .place, one-changed (k .place) (rw (k .step-is) refl) (inl named)))
 
   -- an opening: no record is left, or one at its place
-  module _ (opening : Opening) (holder : Holder) (g : Given) (genTid : Header) (c : Asked) (eq : step ≡ openingStep (before e) opening holder g genTid c) where
+  module _ (opening : Opening) (holder : Holder) (g : Given) (genTid : TidChange) (c : Asked) (eq : step ≡ openingStep (before e) opening holder g genTid c) where
     abbrev opened : Record
     opened = openedTurn (before e) opening holder g .after
 
@@ -221,7 +221,7 @@ module _ (e : Entry) (p : Promise e) (step : Step) (is : planFor (e .call) (e .l
     class-0 zero live =
         let z : q .class % 256 ≡ 0 = omega (arith, zero) in
         let s : State = openedTurn (before e) (requestedOf (q .class % 256)) (requester (before e) place asked) (requestGiven asked) .after .state in
-        let c : classOf s ≡ opensClass (requestedOf (q .class % 256)) = opened-class _ (requestGiven asked) (settingsOf (before e)) (rowsOf (before e)) (requestedOf (q .class % 256)) in
+        let c : classOf s ≡ opensClass (requestedOf (q .class % 256)) = opened-class _ (requestGiven asked) (settingsOf (before e)) (intervalsOf (before e)) (requestedOf (q .class % 256)) in
         let some : 1 ≤ classOf s = class-some s live in
         let none : opensClass (requestedOf (q .class % 256)) ≡ 0 = ap (λ (n : ℕ). opensClass (requestedOf n)) z in
         omega (arith, some, c, none)
@@ -229,7 +229,7 @@ module _ (e : Entry) (p : Promise e) (step : Step) (is : planFor (e .call) (e .l
     by-request : (r : Record) → r ≡ openedTurn (before e) (requestedOf (q .class % 256)) (requester (before e) place asked) (requestGiven asked) .after → 1 ≤ stateNumber (r .state) → ByRequest e r
     unfolding openedTurn requester newRecord
     by-request r is live =
-        let o = opened-as (requestedOf (q .class % 256)) (newRecord (q .peer % 256) (genTidOf (before e)) (q .userAck)) (requestGiven asked) (settingsOf (before e)) (rowsOf (before e)) (rw is at live) in
+        let o = opened-as (requestedOf (q .class % 256)) (newRecord (q .peer % 256) (genTidOf (before e)) (q .userAck)) (requestGiven asked) (settingsOf (before e)) (intervalsOf (before e)) (rw is at live) in
         record {
           asked = ap isRequest (q .call-is);
           role = rw is (o .role ∙ requested-role (q .class % 256));
@@ -260,7 +260,7 @@ module _ (e : Entry) (p : Promise e) (step : Step) (is : planFor (e .call) (e .l
     abbrev arriver : Holder
     arriver = arriverOf (placeFor (freeOf t (count t))) (a .unmatched .role) (a .peer) (a .unmatched .tid) (pduOf (e .lent .given) .kind)
 
-    step-is : step ≡ openingStep t arrives arriver (openedGiven (a .time) (pduOf (e .lent .given))) Kept (openedCall (pduOf (e .lent .given)))
+    step-is : step ≡ openingStep t arrives arriver (openedGiven (a .time) (pduOf (e .lent .given))) Unchanged (openedCall (pduOf (e .lent .given)))
     unfolding unmatchedStep openedStep
     step-is = a .step-is
 
@@ -284,7 +284,7 @@ module _ (e : Entry) (p : Promise e) (step : Step) (is : planFor (e .call) (e .l
 
     arrived-framed : (h : List Entry) → Framed e h
     unfolding arriverOf
-    arrived-framed = framed (inr arrived-peer) (opening-records arrives arriver (openedGiven (a .time) (pduOf (e .lent .given))) Kept (openedCall (pduOf (e .lent .given))) step-is opened-by)
+    arrived-framed = framed (inr arrived-peer) (opening-records arrives arriver (openedGiven (a .time) (pduOf (e .lent .given))) Unchanged (openedCall (pduOf (e .lent .given))) step-is opened-by)
 
   accepted-framed : Way (e .call) (e .lent) step → (h : List Entry) → Framed e h
   accepted-framed (inl i) = idle-framed i

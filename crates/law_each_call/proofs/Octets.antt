@@ -13,11 +13,11 @@ use Rattle.table_record.specs.Record.{octetsOf}
 use Rattle.table_record.proofs.Back.{length-octets}
 use Rattle.table_layout.specs.Table.{putRecord, clearRecord, putGenTid, putCached, putClock}
 use Rattle.table_layout.proofs.Apart.{octet-apart}
-use Rattle.step_commit.specs.Commit.{recordChanged, exitStored, genTidChanged, cacheChanged, tableAfter}
+use Rattle.step_commit.specs.Commit.{recordChanged, exitStored, genTidChanged, cacheChanged, tableChanged}
 use Rattle.step_commit.specs.declared.Change.{Change}
 use Rattle.step_commit.specs.declared.Change.the-variants.{Nothing, Put, Clear}
-use Rattle.step_commit.specs.declared.Header.{Header}
-use Rattle.step_commit.specs.declared.Header.the-variants.{Kept, Set}
+use Rattle.step_commit.specs.declared.TidChange.{TidChange}
+use Rattle.step_commit.specs.declared.TidChange.the-variants.{Unchanged, Set}
 use Rattle.step_commit.specs.declared.Changes.{Changes}
 use Rattle.law_history.specs.Changed.{OutsideRecord, OutsideCached}
 
@@ -29,17 +29,17 @@ module _ (k : ℕ) where
   unfolding putClock
   clock-same t v h = octet-apart t 0 (enc 8 v) k (inr (omega (arith, length-enc 8 v)))
 
-  cached-same : (t : List ℕ) (peer : ℕ) (c : Header) → (c ≡ Kept) ⊎ OutsideCached peer k → Same t (cacheChanged t peer c)
+  cached-same : (t : List ℕ) (peer : ℕ) (c : TidChange) → (c ≡ Unchanged) ⊎ OutsideCached peer k → Same t (cacheChanged t peer c)
   unfolding cacheChanged putCached
   cached-same t peer c (inl e) = rw e refl
-  cached-same t peer Kept (inr o) = refl
+  cached-same t peer Unchanged (inr o) = refl
   cached-same t peer (Set v) (inr (inl h)) = octet-apart t (cachedAt + peer * 2) (enc 2 v) k (inl (omega arith))
   cached-same t peer (Set v) (inr (inr h)) = octet-apart t (cachedAt + peer * 2) (enc 2 v) k (inr (omega (arith, length-enc 2 v)))
 
-  gen-tid-same : (t : List ℕ) (c : Header) → (c ≡ Kept) ⊎ (rcrMaxAt ≤ k) → Same t (genTidChanged t c)
+  gen-tid-same : (t : List ℕ) (c : TidChange) → (c ≡ Unchanged) ⊎ (rcrMaxAt ≤ k) → Same t (genTidChanged t c)
   unfolding genTidChanged putGenTid
   gen-tid-same t c (inl e) = rw e refl
-  gen-tid-same t Kept (inr h) = refl
+  gen-tid-same t Unchanged (inr h) = refl
   gen-tid-same t (Set v) (inr h) = octet-apart t 8 (enc 2 v) k (inr (omega (arith, length-enc 2 v)))
 
   -- a store within a record is apart from what lies outside it
@@ -61,8 +61,8 @@ module _ (k : ℕ) where
 
   module _ (t : List ℕ) (c : Changes) (exit : List ℕ) (fits : length exit ≤ exitBound) (peer : c .peer < peers) where
     -- past the header: every octet of every other record
-    pub other-octets : headerSize ≤ k → OutsideRecord (c .place) k → Same t (tableAfter t c exit)
-    unfolding tableAfter
+    pub other-octets : headerSize ≤ k → OutsideRecord (c .place) k → Same t (tableChanged t c exit)
+    unfolding tableChanged
     other-octets past o =
         clock-same _ (c .time) (omega arith)
         ∙ (cached-same _ (c .peer) (c .cached) (inr (inr (omega (arith, peer))))
@@ -70,16 +70,16 @@ module _ (k : ℕ) where
         ∙ (exit-same _ (c .place) (c .exit) exit fits o ∙ changed-same t (c .place) (c .change) o)))
 
     -- and where no record changes every octet of all
-    pub all-octets : c .change ≡ Nothing → c .exit ≡ false → headerSize ≤ k → Same t (tableAfter t c exit)
-    unfolding tableAfter recordChanged exitStored
+    pub all-octets : c .change ≡ Nothing → c .exit ≡ false → headerSize ≤ k → Same t (tableChanged t c exit)
+    unfolding tableChanged recordChanged exitStored
     all-octets none unstored past =
         clock-same _ (c .time) (omega arith)
         ∙ (cached-same _ (c .peer) (c .cached) (inr (inr (omega (arith, peer))))
         ∙ (gen-tid-same _ (c .«gen_tid») (inr (omega arith)) ∙ rw (none, unstored) refl))
 
     -- in the header
-    pub header-octets : genTidAt ≤ k → k < headerSize → (c .«gen_tid» ≡ Kept) ⊎ (rcrMaxAt ≤ k) → (c .cached ≡ Kept) ⊎ OutsideCached (c .peer) k → Same t (tableAfter t c exit)
-    unfolding tableAfter
+    pub header-octets : genTidAt ≤ k → k < headerSize → (c .«gen_tid» ≡ Unchanged) ⊎ (rcrMaxAt ≤ k) → (c .cached ≡ Unchanged) ⊎ OutsideCached (c .peer) k → Same t (tableChanged t c exit)
+    unfolding tableChanged
     header-octets past inside gen cached =
         clock-same _ (c .time) past
         ∙ (cached-same _ (c .peer) (c .cached) cached

@@ -9,7 +9,7 @@ use Rattle.base_layout.specs.Layout.{tidBound}
 use Rattle.base_lists.proofs.StoresAndParts.{true-false}
 use Rattle.table_record.specs.Record.{roleOf, sendTid}
 use Rattle.table_record.specs.declared.Record.{Record}
-use Rattle.table_layout.specs.Table.{recordAt, settingsOf, rowsOf}
+use Rattle.table_layout.specs.Table.{recordAt, settingsOf, intervalsOf}
 use Rattle.row_events.specs.declared.Event.the-variants as Event
 use Rattle.row_events.specs.declared.Row.the-variants as Row
 use Rattle.row_columns.specs.Columns.{user}
@@ -75,7 +75,7 @@ module _ (l : Lent) (time role peer tid reason : ℕ) (step : Step) (k : Lived (
   -- its turn sends the user's Abort and shows nothing
   aborts : UserAborts turn reason
   unfolding liveTurn
-  aborts = rw (row-is, sym (k .comes .1 .1)) (user-abort-turn r (k .given) (settingsOf (l .table)) (rowsOf (l .table)))
+  aborts = rw (row-is, sym (k .comes .1 .1)) (user-abort-turn r (k .given) (settingsOf (l .table)) (intervalsOf (l .table)))
 
   tid-bound : r .tid ≤ tidBound
   tid-bound = live-range (l .table) (a .fits .formed) (k .place) (k .live) .bounds .tid

@@ -6,7 +6,7 @@ use mathlib.Core.List.{List, [], _∷_}
 use lib.ListN.{length, getD}
 use lib.Dec.{ltb}
 use Rattle.base_lists.specs.Seq.{pick}
-use Rattle.table_fresh.specs.Fresh.{freshAnswer, tableAfter}
+use Rattle.table_fresh.specs.Fresh.{freshAnswer, tableAfterFresh}
 use Rattle.table_fresh.specs.declared.Fresh.{Fresh}
 use Rattle.table_fresh.specs.declared.Fresh.the-variants as Fresh
 use Rattle.law_fresh_formed.proofs.Formed.{fresh-ok}
@@ -31,8 +31,8 @@ record Follows (max : ℕ) (t s : List ℕ) (h : List Entry) : Type 0 where
   run : Run table₀ store₀ t s h
 
 -- a refused fresh-table call leaves the table
-fresh-refused : (a : Fresh) (t settings : List ℕ) (first : ℕ) → (a ≡ Fresh.Made → ⊥) → tableAfter a t settings first ≡ t
-unfolding tableAfter
+fresh-refused : (a : Fresh) (t settings : List ℕ) (first : ℕ) → (a ≡ Fresh.Made → ⊥) → tableAfterFresh a t settings first ≡ t
+unfolding tableAfterFresh
 fresh-refused Fresh.Made t settings first unmade = absurd (unmade refl)
 fresh-refused (Fresh.Refused r) t settings first unmade = refl
 
@@ -65,7 +65,7 @@ module _ (x : Exported) (k : Keeps x) where
 follows : {max : ℕ} {t s : List ℕ} {h : List Entry} → Session max t s h → Follows max t s h
 follows (Session.made old store settings first made) =
     record {
-      table₀ = tableAfter Fresh.Made old settings first;
+      table₀ = tableAfterFresh Fresh.Made old settings first;
       store₀ = store;
       inv = made-inv old settings first made;
       cells = cells-of-none _ store (fresh-ok old settings first made .no-record);

@@ -5,7 +5,7 @@ use mathlib.Core.List.{List, [], _∷_}
 use lib.ListN.{length, getD}
 use lib.Dec.{ltb}
 use Rattle.base_lists.specs.Seq.{pick}
-use Rattle.table_fresh.specs.Fresh.{freshAnswer, tableAfter}
+use Rattle.table_fresh.specs.Fresh.{freshAnswer, tableAfterFresh}
 use Rattle.table_fresh.specs.declared.Fresh.the-variants.{Made}
 use Rattle.step_outcome.specs.Carry.{Lent}
 use Rattle.call_plans.specs.Calls.{Call, promised, Lends}
@@ -35,10 +35,10 @@ historyWith x h = pick (ltb (length (x .words)) 32) h (entryFor x ∷ h)
 -- calls one after another from wtp_fresh on, with RCR_MAX, the table, the store and the history that they leave; outputs, answers and data of any size
 pub data Session : ℕ → List ℕ → List ℕ → List Entry → Type 0 where
   -- wtp_fresh made the table, whatever it and the store held before: a new history begins
-  made : (old store settings : List ℕ) (first : ℕ) → freshAnswer (length old) settings first ≡ Made → Session (getD settings 0 0) (tableAfter Made old settings first) store []
+  made : (old store settings : List ℕ) (first : ℕ) → freshAnswer (length old) settings first ≡ Made → Session (getD settings 0 0) (tableAfterFresh Made old settings first) store []
   -- wtp_fresh was refused
   refused : {max : ℕ} {t s : List ℕ} {h : List Entry} → Session max t s h → (settings : List ℕ) (first : ℕ) → (freshAnswer (length t) settings first ≡ Made → ⊥)
-      → Session max (tableAfter (freshAnswer (length t) settings first) t settings first) s h
+      → Session max (tableAfterFresh (freshAnswer (length t) settings first) t settings first) s h
   -- an engine call
   called : {max : ℕ} {t s : List ℕ} {h : List Entry} → Session max t s h → (x : Exported) → Keeps x → x .lent .table ≡ t → x .lent .store ≡ s
       → Session max (x .seen .table) (x .seen .store) (historyWith x h)

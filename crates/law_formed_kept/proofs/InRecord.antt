@@ -20,7 +20,7 @@ use Rattle.table_record_ok.proofs.RecordTest.{free-state}
 use Rattle.table_names_ok.specs.Names.{SameName}
 use Rattle.table_names_ok.proofs.NamesTest.{name-turned}
 use Rattle.table_well_formed.specs.WellFormed.{Sized, WellFormed}
-use Rattle.law_formed_kept.specs.Kept.{Unused}
+use Rattle.law_formed_kept.specs.UnusedName.{Unused}
 
 pub equal-or : (i j : ℕ) → (i ≡ j) ⊎ (i ≡ j → ⊥)
 equal-or i j = go (told (eqb i j)) where

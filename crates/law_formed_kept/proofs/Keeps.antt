@@ -22,7 +22,7 @@ use Rattle.table_record_ok.proofs.RecordTest.{live-of}
 use Rattle.table_well_formed.specs.WellFormed.{WellFormed}
 use Rattle.table_well_formed.proofs.Lengths.{room}
 use Rattle.table_names_ok.specs.Names.{SameName}
-use Rattle.law_formed_kept.specs.Kept.{Unused}
+use Rattle.law_formed_kept.specs.UnusedName.{Unused}
 use Rattle.law_formed_kept.proofs.InRecord.{store-keeps}
 
 -- a record in range has room in its octets

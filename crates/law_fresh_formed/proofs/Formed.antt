@@ -14,7 +14,7 @@ use Rattle.table_ranges.specs.Ranges.{Interval}
 use Rattle.table_header_ok.specs.Header.{SettingsOk, RowsOk, HeaderOk}
 use Rattle.table_record_ok.specs.OneRecord.{Live}
 use Rattle.table_well_formed.specs.WellFormed.{Sized, WellFormed}
-use Rattle.table_fresh.specs.Fresh.{freshAnswer, freshTable, tableAfter}
+use Rattle.table_fresh.specs.Fresh.{freshAnswer, freshTable, tableAfterFresh}
 use Rattle.table_fresh.specs.declared.Fresh.the-variants.{Made}
 use Rattle.table_fresh.proofs.Sizes.{size-told}
 use Rattle.table_fresh.specs.Conditions.{word, AllInRange}
@@ -67,8 +67,8 @@ module _ (t ws : List ℕ) (first : ℕ) (made : freshAnswer (length t) ws first
   f : FreshFacts (freshTable n ws first) ws first
   f = fresh-facts n ws first a
 
-  pub fresh-ok : FreshOk t (tableAfter Made t ws first) first
-  unfolding tableAfter
+  pub fresh-ok : FreshOk t (tableAfterFresh Made t ws first) first
+  unfolding tableAfterFresh
   fresh-ok =
       let s = size-told (length t) (accepted (length t) ws first made .0) in
       let l : length (freshTable n ws first) ≡ base n = fresh-length n ws first in

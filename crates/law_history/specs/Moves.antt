@@ -7,7 +7,7 @@ use mathlib.Core.Logic.{_⊎_}
 use Rattle.table_record.specs.Record.{roleOf}
 use Rattle.table_record.specs.declared.Record.{Record}
 use Rattle.table_record.specs.declared.State.the-variants.{Free}
-use Rattle.table_layout.specs.Table.{count, recordAt, settingsOf, rowsOf}
+use Rattle.table_layout.specs.Table.{count, recordAt, settingsOf, intervalsOf}
 use Rattle.table_record_ok.specs.OneRecord.{Live}
 use Rattle.row_events.specs.declared.Event.{Event}
 use Rattle.row_events.specs.declared.Opening.{Opening}
@@ -70,7 +70,7 @@ pub record Turned (e : Entry) : Type 0 where
 
 -- the turn of a record that is opened under a name
 abbrev pub openedTurn : Entry → Opening → Name → Bool → Given → Turn
-openedTurn e opening name userAck given = openingTurn opening (newRecord (name .peer) (name .tid) userAck) given (settingsOf (before e)) (rowsOf (before e))
+openedTurn e opening name userAck given = openingTurn opening (newRecord (name .peer) (name .tid) userAck) given (settingsOf (before e)) (intervalsOf (before e))
 
 -- a record is opened at a free place under a name that no live record had
 pub record Opened (e : Entry) : Type 0 where

@@ -9,7 +9,7 @@ use Rattle.table_record.specs.Record.{stateNumber}
 use Rattle.table_layout.specs.Table.{count, settingsOf}
 use Rattle.table_layout.specs.declared.Settings.{Settings}
 use Rattle.law_counting.specs.Counting.{none, Limits}
-use Rattle.table_fresh.specs.Fresh.{freshAnswer, tableAfter}
+use Rattle.table_fresh.specs.Fresh.{freshAnswer, tableAfterFresh}
 use Rattle.table_fresh.specs.declared.Fresh.the-variants.{Made}
 use Rattle.table_fresh.proofs.Ranges.{in-range}
 use Rattle.table_fresh.proofs.Answers.{accepted}
@@ -36,11 +36,11 @@ fresh-sizes old t s first f cells = record { formed = f .formed; cells = cells }
 
 module _ (old ws : List ℕ) (first : ℕ) (made : freshAnswer (length old) ws first ≡ Made) where
   -- RCR_MAX of a fresh table is its first setting
-  fresh-rcr-max : settingsOf (tableAfter Made old ws first) .«rcr_max» ≡ getD ws 0 0
-  unfolding tableAfter
+  fresh-rcr-max : settingsOf (tableAfterFresh Made old ws first) .«rcr_max» ≡ getD ws 0 0
+  unfolding tableAfterFresh
   fresh-rcr-max = ap (λ (s : Settings). s .«rcr_max») (fresh-facts (count old) ws first (in-range ws first (accepted (length old) ws first made .1)) .settings)
 
-  pub made-inv : Inv (getD ws 0 0) (tableAfter Made old ws first) []
+  pub made-inv : Inv (getD ws 0 0) (tableAfterFresh Made old ws first) []
   made-inv =
-      let v = fresh-inv old (tableAfter Made old ws first) first (fresh-ok old ws first made) in
+      let v = fresh-inv old (tableAfterFresh Made old ws first) first (fresh-ok old ws first made) in
       rw fresh-rcr-max at v

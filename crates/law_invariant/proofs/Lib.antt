@@ -1,7 +1,7 @@
 pub mod Counted
 pub mod Names
 pub mod Refused
-pub mod Kept
+pub mod InvariantKept
 pub mod Through
 pub mod Fresh
 pub mod Follows

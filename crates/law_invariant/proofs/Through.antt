@@ -10,7 +10,7 @@ use Rattle.step_plan.specs.declared.Plan.{Plan}
 use Rattle.step_plan.specs.declared.Plan.the-variants.{Refuse, Go}
 use Rattle.step_outcome.specs.Carry.{Done}
 use Rattle.law_steps_sound.specs.Sound.{Fits}
-use Rattle.law_plans_sound.specs.Plans.{Kept, StillFits}
+use Rattle.law_plans_sound.specs.Plans.{RestUnchanged, StillFits}
 use Rattle.call_plans.specs.Calls.{planFor}
 use Rattle.law_calls.proofs.Outcomes.{call-still-fits, call-keeps}
 use Rattle.law_history.specs.Trace.{Entry, Promise, Run, Throughout}
@@ -19,7 +19,7 @@ use Rattle.law_invariant.specs.Invariant.{Inv, Moves, Sizes, NotForSize,
 use Rattle.law_invariant.proofs.Refused.{refused-is, refused-quiet}
 use Rattle.law_ways.proofs.CallWays.{call-ways}
 use Rattle.law_ways.proofs.NumberOne.{fits-not-refused}
-use Rattle.law_invariant.proofs.Kept.{Around, Stepped, quiet-keeps, move-keeps}
+use Rattle.law_invariant.proofs.InvariantKept.{Around, Stepped, quiet-keeps, move-keeps}
 
 -- what holds of every entry that keeps its contract holds throughout
 pub throughout : (P : Entry → List Entry → Type 0) → ((e : Entry) (h : List Entry) → Promise e → P e h) → {t₀ s₀ t s : List ℕ} {h : List Entry} → Run t₀ s₀ t s h → Throughout P h
@@ -35,7 +35,7 @@ module _ (e : Entry) (p : Promise e) where
   accepted-around : (step : Step) → planFor (e .call) (e .lent) ≡ Go step → Around e
   accepted-around step q =
       let f : Fits (e .lent) = call-ways (e .call) (e .lent) step q .fits in
-      let k : Kept (e .lent) (e .done) step = subst (λ (d : Done). Kept (e .lent) d step) (sym (p .keeps)) (call-keeps (e .call) (e .lent) step (p .lends) f q) in
+      let k : RestUnchanged (e .lent) (e .done) step = subst (λ (d : Done). RestUnchanged (e .lent) d step) (sym (p .keeps)) (call-keeps (e .call) (e .lent) step (p .lends) f q) in
       record { formed = still f .formed; same-count = rw (k .table .same-length) refl; same-settings = k .table .settings }
 
   -- a refusal leaves all

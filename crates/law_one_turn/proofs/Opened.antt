@@ -10,7 +10,7 @@ use Rattle.base_layout.specs.Layout.{tidBound}
 use Rattle.base_lists.specs.Seq.{pick}
 use Rattle.table_record.specs.Record.{stateNumber}
 use Rattle.table_record.specs.declared.State.the-variants.{Free}
-use Rattle.table_layout.specs.Table.{count, settingsOf, rowsOf, recordAt}
+use Rattle.table_layout.specs.Table.{count, settingsOf, intervalsOf, recordAt}
 use Rattle.table_record_ok.specs.OneRecord.{Live}
 use Rattle.table_finding.proofs.Tests.{Called}
 use Rattle.table_finding.proofs.Searches.{NoneOf}
@@ -23,7 +23,7 @@ use Rattle.row_turns.specs.Turns.{newRecord, recordAfter, turnOf, openingTurn}
 use Rattle.row_turns.specs.declared.Given.{Given}
 use Rattle.row_turns.specs.declared.Turn.{Turn}
 use Rattle.step_commit.specs.declared.Change.the-variants as Change
-use Rattle.step_commit.specs.declared.Header.{Header}
+use Rattle.step_commit.specs.declared.TidChange.{TidChange}
 use Rattle.step_changes.specs.Changes.{changeOf}
 use Rattle.step_plan.specs.Steps.{stepOf}
 use Rattle.step_plan.specs.declared.Holder.{Holder}
@@ -46,7 +46,7 @@ use Rattle.law_one_turn.proofs.Counted.{entryOf, turn-adds}
 use Rattle.law_one_turn.proofs.Openings.{CalledBy, called-name, not-opened, still-lived, same-lived}
 use Rattle.law_one_turn.proofs.Left.{left-put, left-others, left-same, left-count}
 
-module _ (call : Call) (l : Lent) (opening : Opening) (h : Holder) (g : Given) (genTid : Header) (c : Asked) where
+module _ (call : Call) (l : Lent) (opening : Opening) (h : Holder) (g : Given) (genTid : TidChange) (c : Asked) where
   abbrev t : List ℕ
   t = l .table
 
@@ -108,7 +108,7 @@ module _ (call : Call) (l : Lent) (opening : Opening) (h : Holder) (g : Given) (
 
       as-opened : OpenedAs opening (newRecord (h .peer) (h .tid) (h .up)) (turn .after)
       unfolding openedTurn
-      as-opened = opened-as opening (newRecord (h .peer) (h .tid) (h .up)) g (settingsOf t) (rowsOf t) live
+      as-opened = opened-as opening (newRecord (h .peer) (h .tid) (h .up)) g (settingsOf t) (intervalsOf t) live
 
       is-named : nameOf (turn .after) ≡ own
       unfolding newRecord
@@ -146,12 +146,12 @@ module _ (call : Call) (l : Lent) (opening : Opening) (h : Holder) (g : Given) (
       }
 
 -- an opening that ends changes no record
-pub ends-none : (t : List ℕ) (opening : Opening) (h : Holder) (g : Given) (genTid : Header) (c : Asked) → openingAct opening .next ≡ Ends
+pub ends-none : (t : List ℕ) (opening : Opening) (h : Holder) (g : Given) (genTid : TidChange) (c : Asked) → openingAct opening .next ≡ Ends
     → openingStep t opening h g genTid c .changes .change ≡ Change.Nothing
 unfolding openingStep stepOf openingChanges changeOf openedTurn openingTurn turnOf recordAfter newRecord
 ends-none t opening h g genTid c e = rw e refl
 
-module _ (call : Call) (l : Lent) (h : Holder) (g : Given) (genTid : Header) (c : Asked) (k : OpensFor call l Opening.Requested0 h g genTid c) where
+module _ (call : Call) (l : Lent) (h : Holder) (g : Given) (genTid : TidChange) (c : Asked) (k : OpensFor call l Opening.Requested0 h g genTid c) where
   one-invoke : turnAdds (openedTurn (l .table) Opening.Requested0 h g) ≡ requested 1 0 0
   unfolding openedTurn openingTurn turnOf openingAct actWith
   one-invoke = refl

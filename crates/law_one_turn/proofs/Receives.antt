@@ -17,14 +17,14 @@ use Rattle.row_events.specs.declared.Opening.{Opening}
 use Rattle.row_columns.specs.declared.Next.the-variants.{Ends}
 use Rattle.row_entries.specs.Acts.{openingAct}
 use Rattle.step_arrivals.specs.Arrivals.{tidOf, nameOf, wantedOf}
-use Rattle.step_commit.specs.declared.Header.the-variants.{Kept}
+use Rattle.step_commit.specs.declared.TidChange.the-variants.{Unchanged}
 use Rattle.step_plan.specs.Steps as Steps
 use Rattle.step_plan.specs.declared.Holder.{Holder}
 use Rattle.step_plan.specs.declared.Step.{Step}
 use Rattle.step_opening.specs.Opens.{placeFor, openedTurn, openingStep}
 use Rattle.call_receive.specs.Receives.{arriverOf, openedGiven, openedCall, openedStep, arrivalOpening, unmatchedStep}
 use Rattle.call_receive.proofs.Accepted.{Accepted}
-use Rattle.call_receive.proofs.Kept.{kept-small}
+use Rattle.call_receive.proofs.KeptData.{kept-small}
 use Rattle.call_receive.proofs.Ways.{Unmatched, Opens, leaves-or-opens}
 use Rattle.step_outcome.specs.Carry.{Lent, carriedOut}
 use Rattle.law_steps_sound.specs.Sound.{Fits, GivenOk, Sound}
@@ -59,7 +59,7 @@ module _ (l : Lent) (time peer : ℕ) (f : Fits l) (step : Step) (a : Accepted (
     holder = arriverOf (placeFor (freeOf t (count t))) (u .role) peer (u .tid) (p .kind)
 
     abbrev itsStep : Step
-    itsStep = openingStep t opening holder (openedGiven time p) Kept (openedCall p)
+    itsStep = openingStep t opening holder (openedGiven time p) Unchanged (openedCall p)
 
     -- the answer tells nothing
     its-peer : peerOf call (carriedOut l itsStep .answer) ≡ peer
@@ -72,7 +72,7 @@ module _ (l : Lent) (time peer : ℕ) (f : Fits l) (step : Step) (a : Accepted (
 
     nothing-opened : Sound l itsStep → CountsNone (holder .class) opening → Quiet (entryOf call l itsStep)
     unfolding arriverOf
-    nothing-opened ok q = ended call l opening holder (openedGiven time p) Kept (openedCall p) q f ok (u .bound) its-peer (λ n. refl)
+    nothing-opened ok q = ended call l opening holder (openedGiven time p) Unchanged (openedCall p) q f ok (u .bound) its-peer (λ n. refl)
 
     record-opened : Sound l itsStep → OpensRecord (holder .class) opening → (openingAct opening .next ≡ Ends) ⊎ Opens t (l .given) → Opened (entryOf call l itsStep)
     unfolding arriverOf openedTurn
@@ -81,7 +81,7 @@ module _ (l : Lent) (time peer : ℕ) (f : Fits l) (step : Step) (a : Accepted (
         let role : u .role ≡ Responder = same-role (nameOf (l .given)) (u .role) Responder (u .tid) (tidOf (l .given)) (u .names) (there .invokes) in
         let inside : placeFor (freeOf t (count t)) < count t = free-place t (f .formed) in
         let live : 1 ≤ stateNumber (openedTurn t opening holder (openedGiven time p) .after .state) = o .lives _ _ _ _ in
-        let k : OpensFor call l opening holder (openedGiven time p) Kept (openedCall p) = record {
+        let k : OpensFor call l opening holder (openedGiven time p) Unchanged (openedCall p) = record {
           fits = f;
           sound = ok;
           tid = u .bound;
@@ -92,9 +92,9 @@ module _ (l : Lent) (time peer : ℕ) (f : Fits l) (step : Step) (a : Accepted (
           unused = u .none;
           others-asked = λ n d. refl;
         } in
-        opened call l opening holder (openedGiven time p) Kept (openedCall p) k live its-given inside (free-found t (count t) _ (there .free) .is-so)
+        opened call l opening holder (openedGiven time p) Unchanged (openedCall p) k live its-given inside (free-found t (count t) _ (there .free) .is-so)
         (is-opened (entryOf call l itsStep) (name (u .role) peer (u .tid)) role (none-lives t (name (u .role) peer (u .tid)) (u .none))
-        (lives-then call l opening holder (openedGiven time p) Kept (openedCall p) k live inside))
+        (lives-then call l opening holder (openedGiven time p) Unchanged (openedCall p) k live inside))
 
     pub unmatched-move : Sound l (unmatchedStep t (u .role) peer (u .tid) time (l .given) p) → let e : Entry = entryOf call l (unmatchedStep t (u .role) peer (u .tid) time (l .given) p) in Quiet e ⊎ Opened e
     unfolding unmatchedStep openedStep arriverOf

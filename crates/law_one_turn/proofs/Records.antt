@@ -20,11 +20,11 @@ use Rattle.table_record_ok.proofs.States.{state-octet}
 use Rattle.table_well_formed.specs.WellFormed.{WellFormed}
 use Rattle.law_formed_kept.proofs.InRecord.{equal-or}
 use Rattle.law_formed_kept.proofs.Keeps.{range-fits}
-use Rattle.step_commit.specs.Commit.{recordChanged, exitStored, genTidChanged, cacheChanged, tableAfter}
+use Rattle.step_commit.specs.Commit.{recordChanged, exitStored, genTidChanged, cacheChanged, tableChanged}
 use Rattle.step_commit.specs.declared.Change.{Change}
 use Rattle.step_commit.specs.declared.Change.the-variants.{Nothing, Put, Clear}
-use Rattle.step_commit.specs.declared.Header.{Header}
-use Rattle.step_commit.specs.declared.Header.the-variants.{Kept, Set}
+use Rattle.step_commit.specs.declared.TidChange.{TidChange}
+use Rattle.step_commit.specs.declared.TidChange.the-variants.{Unchanged, Set}
 use Rattle.step_commit.specs.declared.Changes.{Changes}
 use Rattle.law_commit.specs.Allowed.{ChangeOk, Allowed}
 use Rattle.law_commit.proofs.Frame.{commit-frames}
@@ -34,14 +34,14 @@ unfolding exitStored
 exit-apart t place true exit = record-apart t (exitBase place) exit place (inl (omega arith))
 exit-apart t place false exit = refl
 
-gen-tid-apart : (t : List ℕ) (place : ℕ) (c : Header) → recordAt (genTidChanged t c) place ≡ recordAt t place
+gen-tid-apart : (t : List ℕ) (place : ℕ) (c : TidChange) → recordAt (genTidChanged t c) place ≡ recordAt t place
 unfolding genTidChanged putGenTid
-gen-tid-apart t place Kept = refl
+gen-tid-apart t place Unchanged = refl
 gen-tid-apart t place (Set v) = let n : length (enc 2 v) ≡ 2 = length-enc 2 v in record-apart t 8 (enc 2 v) place (inr (omega arith))
 
-cached-apart : (t : List ℕ) (place peer : ℕ) (c : Header) → peer < peers → recordAt (cacheChanged t peer c) place ≡ recordAt t place
+cached-apart : (t : List ℕ) (place peer : ℕ) (c : TidChange) → peer < peers → recordAt (cacheChanged t peer c) place ≡ recordAt t place
 unfolding cacheChanged putCached
-cached-apart t place peer Kept h = refl
+cached-apart t place peer Unchanged h = refl
 cached-apart t place peer (Set v) h = let n : length (enc 2 v) ≡ 2 = length-enc 2 v in record-apart t (cachedAt + peer * 2) (enc 2 v) place (inr (omega arith))
 
 clock-apart : (t : List ℕ) (place v : ℕ) → recordAt (putClock t v) place ≡ recordAt t place
@@ -50,10 +50,10 @@ clock-apart t place v = let n : length (enc 8 v) ≡ 8 = length-enc 8 v in recor
 
 module _ (t : List ℕ) (c : Changes) (exit : List ℕ) (w : WellFormed t) (ok : Allowed t c exit) where
   abbrev after : List ℕ
-  after = tableAfter t c exit
+  after = tableChanged t c exit
 
   at-place : recordAt after (c .place) ≡ recordAt (recordChanged t (c .place) (c .change)) (c .place)
-  unfolding tableAfter
+  unfolding tableChanged
   at-place = clock-apart _ (c .place) (c .time) ∙ (cached-apart _ (c .place) (c .peer) (c .cached) (ok .peer) ∙ (gen-tid-apart _ (c .place) (c .«gen_tid») ∙ exit-apart _ (c .place) (c .exit) exit))
 
   room : base (c .place) + recordSize ≤ length t

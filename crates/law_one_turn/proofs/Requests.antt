@@ -25,7 +25,7 @@ use Rattle.row_columns.specs.Columns.{actWith, stored}
 use Rattle.row_columns.specs.declared.Indication.the-variants as Indication
 use Rattle.row_entries.specs.Acts.{openingAct}
 use Rattle.row_turns.specs.Turns.{movedTo, recordAfter, turnOf, openingTurn}
-use Rattle.step_commit.specs.declared.Header.the-variants.{Set}
+use Rattle.step_commit.specs.declared.TidChange.the-variants.{Set}
 use Rattle.step_plan.specs.Steps as Steps
 use Rattle.step_plan.specs.declared.Step.{Step}
 use Rattle.step_opening.specs.Opens.{openedTurn, openingStep}

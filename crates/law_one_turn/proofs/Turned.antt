@@ -11,7 +11,7 @@ use Rattle.base_lists.specs.Seq.{pick}
 use Rattle.table_record.specs.Record.{roleOf, stateNumber}
 use Rattle.table_record.specs.declared.State.the-variants.{Free}
 use Rattle.table_record.specs.declared.Record.{Record}
-use Rattle.table_layout.specs.Table.{settingsOf, rowsOf, recordAt}
+use Rattle.table_layout.specs.Table.{settingsOf, intervalsOf, recordAt}
 use Rattle.table_record_ok.specs.OneRecord.{Live}
 use Rattle.law_places.proofs.Places.{LiveAt, live-range}
 use Rattle.row_events.specs.declared.Event.{Event}
@@ -90,7 +90,7 @@ module _ (call : Call) (l : Lent) (place : ℕ) (event : Event) (g : Given) (c :
 
     kept-or-freed : FreedOrSame was (turn .after)
     unfolding liveTurn rowAt
-    kept-or-freed = turn-keeps g (settingsOf t) (rowsOf t) was event
+    kept-or-freed = turn-keeps g (settingsOf t) (intervalsOf t) was event
 
     -- the record has its own name afterwards, or none
     other-gone : (n : Name) → (n ≡ nameOf was → ⊥) → CalledBy n (recordAt (after entry) place) → ⊥

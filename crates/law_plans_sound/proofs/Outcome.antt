@@ -20,7 +20,7 @@ use Rattle.step_plan.specs.declared.Plan.the-variants.{Refuse, Go}
 use Rattle.step_outcome.specs.Carry.{Lent, CellFits, cellWritten, tableThen, storeThen, sentThen, carriedOut, outcome}
 use Rattle.step_outcome.proofs.Refused.{output-after}
 use Rattle.law_steps_sound.specs.Sound.{Fits, Sound}
-use Rattle.law_plans_sound.specs.Plans.{PlanSound, Untouched, OutsideMessage, Kept, StillFits}
+use Rattle.law_plans_sound.specs.Plans.{PlanSound, Untouched, OutsideMessage, RestUnchanged, StillFits}
 
 pub refused-untouched : (l : Lent) (r : Refusal) → Untouched l (outcome l (Refuse r))
 unfolding outcome
@@ -56,7 +56,7 @@ module _ (l : Lent) (step : Step) (f : Fits l) (ok : Sound l step) where
       let n : length (part (l .given) (step .message .start) (step .message .len)) ≡ step .message .len = length-part (l .given) (step .message .start) (step .message .len) (fits .1) in
       getD-after (part (l .given) (step .message .start) (step .message .len)) (l .store) (step .changes .place * cellSize) k (rw n h)
 
-  pub step-keeps : Kept l (carriedOut l step) step
+  pub step-keeps : RestUnchanged l (carriedOut l step) step
   unfolding carriedOut tableThen storeThen
   step-keeps = record {
     table = commit-frames (l .table) (step .changes) (l .exit) (f .formed) (ok .allowed);

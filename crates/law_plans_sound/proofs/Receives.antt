@@ -18,8 +18,8 @@ use Rattle.table_record.specs.declared.Role.the-variants.{Responder}
 use Rattle.table_record.specs.declared.Record.{Record}
 use Rattle.codec_pdu.specs.declared.Pdu.{Pdu}
 use Rattle.codec_reading.specs.Read.{pduOf}
-use Rattle.table_layout.specs.Table.{count, recordAt, settingsOf, rowsOf}
-use Rattle.law_formed_kept.specs.Kept.{Unused}
+use Rattle.table_layout.specs.Table.{count, recordAt, settingsOf, intervalsOf}
+use Rattle.law_formed_kept.specs.UnusedName.{Unused}
 use Rattle.table_finding.specs.Finding.{freeOf}
 use Rattle.row_events.specs.declared.Opening.{Opening}
 use Rattle.row_events.specs.declared.Opening.the-variants as Opening
@@ -33,7 +33,7 @@ use Rattle.row_columns.specs.Columns.{actWith, stored, shown}
 use Rattle.row_columns.specs.declared.Next.the-variants.{Ends}
 use Rattle.row_turns.specs.Turns.{newRecord, recordAfter, turnOf, openingTurn}
 use Rattle.row_turns.specs.declared.Given.{Given}
-use Rattle.step_commit.specs.declared.Header.the-variants.{Kept}
+use Rattle.step_commit.specs.declared.TidChange.the-variants.{Unchanged}
 use Rattle.law_commit.specs.Allowed.{SetOk}
 use Rattle.law_sending.specs.SendingLaws.{ClassFits}
 use Rattle.step_opening.specs.Opens.{placeFor, openedTurn}
@@ -44,7 +44,7 @@ use Rattle.step_plan.specs.declared.Step.{Step}
 use Rattle.step_plan.specs.declared.Plan.{Plan}
 use Rattle.step_plan.specs.declared.Plan.the-variants.{Refuse, Go}
 use Rattle.call_receive.specs.Receives.{takenGiven, takenCall, takenStep, arriverOf, openedGiven, openedCall, openedStep, arrivalOpening, unmatchedStep, receiveStep, receivePlan}
-use Rattle.call_receive.proofs.Kept.{kept-inside, kept-small}
+use Rattle.call_receive.proofs.KeptData.{kept-inside, kept-small}
 use Rattle.call_receive.proofs.Ways.{Taken, Unmatched, Opens, ways, leaves-or-opens}
 use Rattle.call_receive.proofs.Accepted.{Accepted, receive-accepted}
 use Rattle.step_outcome.specs.Carry.{Lent}
@@ -154,7 +154,7 @@ module _ (l : Lent) (time peer : ℕ) (exit : length (l .exit) ≤ exitBound) (s
     unfolding openedTurn arriverOf newRecord
     unused live (inl ends) = absurd (ends-free opening t holder (openedGiven time p) ends live)
     unused live (inr opens) =
-        let o = opened-as opening (newRecord peer (u .tid) _) (openedGiven time p) (settingsOf t) (rowsOf t) live in
+        let o = opened-as opening (newRecord peer (u .tid) _) (openedGiven time p) (settingsOf t) (intervalsOf t) live in
         let role : u .role ≡ Responder = same-role (nameOf (l .given)) (u .role) Responder (u .tid) (tidOf (l .given)) (u .names) (opens .invokes) in
         λ j k d lives same. u .none j k (record {
           live = not-free (recordAt t j .state) lives;
@@ -166,7 +166,7 @@ module _ (l : Lent) (time peer : ℕ) (exit : length (l .exit) ≤ exitBound) (s
     pub unmatched-sound : Sound l (unmatchedStep t (u .role) peer (u .tid) time (l .given) p)
     unfolding unmatchedStep openedStep openedGiven openedCall arriverOf SetOk
     unmatched-sound =
-        opening-sound l opening holder (openedGiven time p) Kept (openedCall p) (a .enters .fitting)
+        opening-sound l opening holder (openedGiven time p) Unchanged (openedCall p) (a .enters .fitting)
         (record { time = a .enters .bounded; len = kept-small p; exit-len = omega arith })
         (record { message-inside = kept-inside (l .given); message-fits = kept-small p; exit-fits = exit })
         tt

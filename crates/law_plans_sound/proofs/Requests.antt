@@ -10,15 +10,15 @@ use Rattle.base_lists.specs.Seq.{pick}
 use Rattle.table_record.specs.Record.{stateNumber}
 use Rattle.table_record.specs.declared.Role.the-variants.{Initiator}
 use Rattle.table_record.specs.declared.Record.{Record}
-use Rattle.table_layout.specs.Table.{count, genTidOf, settingsOf, rowsOf}
+use Rattle.table_layout.specs.Table.{count, genTidOf, settingsOf, intervalsOf}
 use Rattle.table_tids.specs.Tids.{nextTid}
-use Rattle.law_formed_kept.specs.Kept.{Unused}
+use Rattle.law_formed_kept.specs.UnusedName.{Unused}
 use Rattle.row_events.specs.declared.Opening.{Opening}
 use Rattle.row_events.specs.declared.Opening.the-variants as Opening
 use Rattle.row_choice.specs.Rows.{requestedOf}
 use Rattle.row_entries.specs.Acts.{openingAct}
 use Rattle.row_turns.specs.Turns.{newRecord}
-use Rattle.step_commit.specs.declared.Header.the-variants.{Set}
+use Rattle.step_commit.specs.declared.TidChange.the-variants.{Set}
 use Rattle.law_commit.specs.Allowed.{SetOk}
 use Rattle.step_opening.specs.Opens.{openedTurn}
 use Rattle.step_plan.specs.declared.Plan.{Plan}
@@ -55,7 +55,7 @@ module _ (l : Lent) (q : Request) (given : q .len ≡ length (l .given)) (exit :
   unused : 1 ≤ stateNumber (opened .state) → Unused (l .table) place opened
   unfolding openedTurn requester newRecord
   unused h =
-      let o = opened-as (requestedOf (q .class % 256)) (newRecord (q .peer % 256) (genTidOf (l .table)) (q .«user_ack»)) (requestGiven q) (settingsOf (l .table)) (rowsOf (l .table)) h in
+      let o = opened-as (requestedOf (q .class % 256)) (newRecord (q .peer % 256) (genTidOf (l .table)) (q .«user_ack»)) (requestGiven q) (settingsOf (l .table)) (intervalsOf (l .table)) h in
       λ j k d live same. name-unused (l .table) _ _ q a opened (o .role ∙ requested-role (q .class % 256)) (o .tid) j k live same
 
   pub request-sound : Sound l (requestStep (l .table) place q)

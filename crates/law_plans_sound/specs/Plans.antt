@@ -29,7 +29,7 @@ abbrev pub OutsideMessage : Step → ℕ → Type 0
 OutsideMessage step k = (step .cell ≡ false) ⊎ ((k < step .changes .place * cellSize) ⊎ (step .changes .place * cellSize + step .message .len ≤ k))
 
 -- what an accepted call leaves as it was: every other record, the settings, the other peers' cached TIDs; the store but for the message; the output past the PDU
-pub record Kept (l : Lent) (d : Done) (step : Step) : Type 0 where
+pub record RestUnchanged (l : Lent) (d : Done) (step : Step) : Type 0 where
   pub table : Framed (l .table) (d .table) (step .changes)
   pub store : (k : ℕ) → OutsideMessage step k → getD (d .store) k 0 ≡ getD (l .store) k 0
   pub output : (k : ℕ) → length (sentThen l step) ≤ k → getD (d .output) k 0 ≡ getD (l .output) k 0

@@ -12,10 +12,10 @@ use Rattle.base_layout.specs.Layout.{timeBound, tidBound, cachedBound, peers, e
 use Rattle.base_lists.specs.Seq.{pick}
 use Rattle.table_record.specs.Record.{stateNumber}
 use Rattle.table_record.specs.declared.Record.{Record}
-use Rattle.table_layout.specs.Table.{count, settingsOf, rowsOf, cachedOf, recordAt}
+use Rattle.table_layout.specs.Table.{count, settingsOf, intervalsOf, cachedOf, recordAt}
 use Rattle.table_record_ok.specs.OneRecord.{Bounded}
 use Rattle.table_well_formed.specs.WellFormed.{WellFormed}
-use Rattle.law_formed_kept.specs.Kept.{Unused}
+use Rattle.law_formed_kept.specs.UnusedName.{Unused}
 use Rattle.law_formed_kept.proofs.Keeps.{own-name}
 use Rattle.row_events.specs.declared.Event.{Event}
 use Rattle.row_events.specs.declared.Opening.{Opening}
@@ -28,7 +28,7 @@ use Rattle.law_rows.proofs.Transaction.{turn-keeps}
 use Rattle.row_turns.specs.Turns.{newRecord}
 use Rattle.row_turns.specs.declared.Given.{Given}
 use Rattle.step_commit.specs.declared.Change.the-variants as Change
-use Rattle.step_commit.specs.declared.Header.{Header}
+use Rattle.step_commit.specs.declared.TidChange.{TidChange}
 use Rattle.law_commit.specs.Allowed.{ChangeOk, SetOk, Allowed}
 use Rattle.step_changes.specs.Changes.{changeOf, cachedAfter, turnChanges}
 use Rattle.step_plan.specs.Steps.{idleChanges}
@@ -41,7 +41,7 @@ use Rattle.law_steps_sound.specs.Sound.{GivenOk}
 use Rattle.law_steps_sound.proofs.Ends.{ended-stores-none}
 
 -- what the settings of a well-formed table and the event bring is within its bounds
-pub within : (t : List ℕ) (g : Given) → WellFormed t → GivenOk g → Within g (settingsOf t) (rowsOf t)
+pub within : (t : List ℕ) (g : Given) → WellFormed t → GivenOk g → Within g (settingsOf t) (intervalsOf t)
 within t g w ok = record {
   time = ok .time;
   len = ok .len;
@@ -58,7 +58,7 @@ cached-ok Cache.Same cached tid h = tt
 cached-ok Cache.Set cached tid h = omega arith
 cached-ok Cache.SetIfNone cached tid h = go (eqb cached 0)
   where
-    go : (b : Bool) → SetOk cachedBound (pick b (Header.Set (tid + 1)) Header.Kept)
+    go : (b : Bool) → SetOk cachedBound (pick b (TidChange.Set (tid + 1)) TidChange.Unchanged)
     go true = omega arith
     go false = tt
 
@@ -71,15 +71,15 @@ module _ (t : List ℕ) (w : WellFormed t) (place : ℕ) (lives : LiveAt t place
 
   pub turn-bounded : Bounded (settingsOf t) after
   unfolding liveTurn rowAt
-  turn-bounded = turn-in-range g (settingsOf t) (rowsOf t) (within t g w ok) event was (live-range t w place lives .bounds)
+  turn-bounded = turn-in-range g (settingsOf t) (intervalsOf t) (within t g w ok) event was (live-range t w place lives .bounds)
 
   kept-or-freed : FreedOrSame was after
   unfolding liveTurn rowAt
-  kept-or-freed = turn-keeps g (settingsOf t) (rowsOf t) was event
+  kept-or-freed = turn-keeps g (settingsOf t) (intervalsOf t) was event
 
   no-exit : eqb (stateNumber (after .state)) 0 ≡ true → liveTurn t place event g .exit ≡ false
   unfolding liveTurn
-  no-exit h = ended-stores-none (rowAt t place event) was g (settingsOf t) (rowsOf t) h
+  no-exit h = ended-stores-none (rowAt t place event) was g (settingsOf t) (intervalsOf t) h
 
   own : (r : Record) → FreedOrSame was r → 1 ≤ stateNumber (r .state) → Unused t place r
   unfolding newRecord
@@ -114,8 +114,8 @@ module _ (t : List ℕ) (w : WellFormed t) (opening : Opening) (h : Holder) (g :
   pub opened-bounded : Bounded (settingsOf t) opened
   unfolding openedTurn
   opened-bounded =
-      let in-bounds : Within g (settingsOf t) (rowsOf t) = within t g w ok in
-      opening-in-range g (settingsOf t) (rowsOf t) in-bounds opening _ (new-in-range g (settingsOf t) (rowsOf t) in-bounds (h .peer) (h .tid) (h .up) peer tid)
+      let in-bounds : Within g (settingsOf t) (intervalsOf t) = within t g w ok in
+      opening-in-range g (settingsOf t) (intervalsOf t) in-bounds opening _ (new-in-range g (settingsOf t) (intervalsOf t) in-bounds (h .peer) (h .tid) (h .up) peer tid)
 
   module _ (unused : 1 ≤ stateNumber (opened .state) → Unused t (h .place) opened) where
     opened-ok : (b : Bool) → eqb (stateNumber (opened .state)) 0 ≡ b → ChangeOk t (h .place) (pick b Change.Nothing (Change.Put opened)) false
@@ -125,7 +125,7 @@ module _ (t : List ℕ) (w : WellFormed t) (opening : Opening) (h : Holder) (g :
         let l : 1 ≤ stateNumber (opened .state) = omega (arith, eqb-false (stateNumber (opened .state)) 0 e) in
         (record { live = l; bounds = opened-bounded }, unused l)
 
-    pub opening-allowed : (genTid : Header) (exit : List ℕ) → SetOk tidBound genTid → length exit ≤ exitBound
+    pub opening-allowed : (genTid : TidChange) (exit : List ℕ) → SetOk tidBound genTid → length exit ≤ exitBound
         → Allowed t (openingChanges (openedTurn t opening h g) h (cachedOf t (h .peer)) genTid (g .time)) exit
     unfolding openingChanges changeOf
     opening-allowed genTid exit counted x = record {

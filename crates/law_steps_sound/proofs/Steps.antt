@@ -11,7 +11,7 @@ use Rattle.table_record.specs.Record.{classOf, stateNumber}
 use Rattle.table_record.specs.declared.State.{State}
 use Rattle.table_record.specs.declared.State.the-variants as State
 use Rattle.table_layout.specs.Table.{count, recordAt}
-use Rattle.law_formed_kept.specs.Kept.{Unused}
+use Rattle.law_formed_kept.specs.UnusedName.{Unused}
 use Rattle.row_events.specs.declared.Event.{Event}
 use Rattle.row_events.specs.declared.Opening.{Opening}
 use Rattle.row_entries.specs.Acts.{openingAct}
@@ -20,7 +20,7 @@ use Rattle.law_rows.proofs.Rows.{proper, proper-opening}
 use Rattle.row_turns.specs.Turns.{turnOf, rowTurn, openingTurn}
 use Rattle.row_turns.specs.declared.Given.{Given}
 use Rattle.row_turns.specs.declared.Turn.{Turn}
-use Rattle.step_commit.specs.declared.Header.{Header}
+use Rattle.step_commit.specs.declared.TidChange.{TidChange}
 use Rattle.step_commit.specs.declared.Changes.{Changes}
 use Rattle.law_commit.specs.Allowed.{SetOk, Allowed}
 use Rattle.step_changes.specs.Changes.{turnChanges}
@@ -97,7 +97,7 @@ unfolding openedTurn openingTurn turnOf
 class-opening t opening h g k = k
 
 -- what comes without a live record, under a name that no live record has
-pub opening-sound : (l : Lent) (opening : Opening) (h : Holder) (g : Given) (genTid : Header) (c : Call) → Fits l → GivenOk g → LentOk l c → SetOk tidBound genTid
+pub opening-sound : (l : Lent) (opening : Opening) (h : Holder) (g : Given) (genTid : TidChange) (c : Call) → Fits l → GivenOk g → LentOk l c → SetOk tidBound genTid
     → h .place < count (l .table) → h .peer < peers → h .tid ≤ tidBound → h .len ≤ cellSize → ClassFits (openingAct opening .send) (h .class)
     → (1 ≤ stateNumber (openedTurn (l .table) opening h g .after .state) → Unused (l .table) (h .place) (openedTurn (l .table) opening h g .after))
     → Sound l (openingStep (l .table) opening h g genTid c)

@@ -31,7 +31,7 @@ use Rattle.call_primitive.specs.declared.Primitive.{Primitive}
 use Rattle.call_primitive.proofs.Accepted as Primitives
 use Rattle.call_receive.specs.Receives.{takenGiven, takenCall, takenStep, openedCall, openedStep, unmatchedStep, receiveStep}
 use Rattle.call_receive.proofs.Accepted as Receives
-use Rattle.call_receive.proofs.Kept.{kept-small}
+use Rattle.call_receive.proofs.KeptData.{kept-small}
 use Rattle.call_receive.proofs.Ways.{Taken, Unmatched, ways}
 use Rattle.call_timer.specs.Timers.{firedGiven, firedCall, stepBy, timerStep}
 use Rattle.call_timer.proofs.Accepted as Timers

@@ -32,7 +32,7 @@ fn fit(ports: bool, source: u64, destination: u64, number: u64) -> bool
 }
 
 // The length of the frame of a datagram of len octets, with room for `room`; or why there is none.
-fn planned(len: usize, room: usize, ports: bool, fits: bool) -> Putting
+fn putting_plan(len: usize, room: usize, ports: bool, fits: bool) -> Putting
     ensures { λ r. ⌜ r ≡ planOf len room ports fits ⌝ }
 {
     if room < 1523 {
@@ -83,7 +83,7 @@ pub fn put(
     ensures { λ r. ⌜ done r (now (out .exit)) ≡ putOf (now (datagram .entry)) ports source destination number (now (out .entry)) ⌝ }
 {
     let fits = fit(ports, source, destination, number);
-    match planned(datagram.len(), out.len(), ports, fits) {
+    match putting_plan(datagram.len(), out.len(), ports, fits) {
         Putting::Refused(r) => Putting::Refused(r),
         Putting::Length(n) => {
             let at = put_head(&mut *out, ports, source, destination, number);

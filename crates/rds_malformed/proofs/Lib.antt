@@ -1,3 +1,3 @@
 pub mod Body
-pub mod Exact
+pub mod RefusedExactly
 pub mod Items

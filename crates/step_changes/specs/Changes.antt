@@ -9,8 +9,8 @@ use Rattle.row_columns.specs.declared.Cache.the-variants as Cache
 use Rattle.row_turns.specs.declared.Turn.{Turn}
 use Rattle.step_commit.specs.declared.Change.{Change}
 use Rattle.step_commit.specs.declared.Change.the-variants as Change
-use Rattle.step_commit.specs.declared.Header.{Header}
-use Rattle.step_commit.specs.declared.Header.the-variants as Header
+use Rattle.step_commit.specs.declared.TidChange.{TidChange}
+use Rattle.step_commit.specs.declared.TidChange.the-variants as TidChange
 use Rattle.step_commit.specs.declared.Changes.{Changes}
 
 -- a record that is live afterwards is put; what becomes of one that isn't, the second says
@@ -18,10 +18,10 @@ unfoldable pub changeOf : Record → Change → Change
 changeOf after ended = pick (eqb (stateNumber (after .state)) 0) ended (Change.Put after)
 
 -- 01: "A valid TID becomes LastTID. A verified one does so only if none is cached"
-unfoldable pub cachedAfter : Cache → ℕ → ℕ → Header
-cachedAfter Cache.Same cached tid = Header.Kept
-cachedAfter Cache.Set cached tid = Header.Set (tid + 1)
-cachedAfter Cache.SetIfNone cached tid = pick (eqb cached 0) (Header.Set (tid + 1)) Header.Kept
+unfoldable pub cachedAfter : Cache → ℕ → ℕ → TidChange
+cachedAfter Cache.Same cached tid = TidChange.Unchanged
+cachedAfter Cache.Set cached tid = TidChange.Set (tid + 1)
+cachedAfter Cache.SetIfNone cached tid = pick (eqb cached 0) (TidChange.Set (tid + 1)) TidChange.Unchanged
 
 -- 01: "A freed record is zeroed"; a turn leaves GenTID as it is: only a request counts it
 unfoldable pub turnChanges : Turn → ℕ → ℕ → ℕ → ℕ → ℕ → Changes
@@ -29,7 +29,7 @@ turnChanges turn place peer tid cached time = record {
   place = place;
   change = changeOf (turn .after) Change.Clear;
   exit = turn .exit;
-  «gen_tid» = Header.Kept;
+  «gen_tid» = TidChange.Unchanged;
   peer = peer;
   cached = cachedAfter (turn .cache) cached tid;
   time = time;

@@ -7,7 +7,7 @@ use row_columns::Cache;
 use row_turns::Turn;
 use step_commit::Change;
 use step_commit::Changes;
-use step_commit::Header;
+use step_commit::TidChange;
 use table_record::Record;
 
 // What becomes of the record: where it isn't live afterwards, what the caller says.
@@ -23,18 +23,18 @@ pub fn change_of(after: Record, ended: Change) -> Change
 }
 
 // What becomes of the cached TID of the peer: 0 is none, else LastTID and 1.
-pub fn cached_after(cache: Cache, cached: u16, tid: u16) -> Header
+pub fn cached_after(cache: Cache, cached: u16, tid: u16) -> TidChange
     requires { ⌜ tid < tidCount ⌝ }
     ensures { λ r. ⌜ r ≡ cachedAfter cache cached tid ⌝ }
 {
     match cache {
-        Cache::Same => Header::Kept,
-        Cache::Set => Header::Set(tid + 1),
+        Cache::Same => TidChange::Unchanged,
+        Cache::Set => TidChange::Set(tid + 1),
         Cache::SetIfNone => {
             if cached == 0 {
-                Header::Set(tid + 1)
+                TidChange::Set(tid + 1)
             } else {
-                Header::Kept
+                TidChange::Unchanged
             }
         }
     }
@@ -53,7 +53,7 @@ pub fn turn_changes(turn: Turn, place: usize, peer: u8, tid: u16, cached: u16, t
         place: place,
         change: change,
         exit: turn.exit,
-        gen_tid: Header::Kept,
+        gen_tid: TidChange::Unchanged,
         peer: base_lists::size(peer),
         cached: header,
         time: time,

@@ -8,10 +8,10 @@ use Rattle.base_lists.proofs.StoresAndParts.{length-put}
 use Rattle.table_layout.specs.Table.{putRecord, clearRecord, putGenTid, putCached, putClock}
 use Rattle.step_commit.specs.declared.Change.{Change}
 use Rattle.step_commit.specs.declared.Change.the-variants.{Nothing, Put, Clear}
-use Rattle.step_commit.specs.declared.Header.{Header}
-use Rattle.step_commit.specs.declared.Header.the-variants.{Kept, Set}
+use Rattle.step_commit.specs.declared.TidChange.{TidChange}
+use Rattle.step_commit.specs.declared.TidChange.the-variants.{Unchanged, Set}
 use Rattle.step_commit.specs.declared.Changes.{Changes}
-use Rattle.step_commit.specs.Commit.{recordChanged, exitStored, genTidChanged, cacheChanged, tableAfter}
+use Rattle.step_commit.specs.Commit.{recordChanged, exitStored, genTidChanged, cacheChanged, tableChanged}
 
 pub length-changed : (t : List ℕ) (place : ℕ) (c : Change) → length (recordChanged t place c) ≡ length t
 unfolding recordChanged putRecord clearRecord
@@ -24,22 +24,22 @@ unfolding exitStored
 exit-stored t place true exit = length-put t _ exit
 exit-stored t place false exit = refl
 
-gen-tid-changed : (t : List ℕ) (c : Header) → length (genTidChanged t c) ≡ length t
+gen-tid-changed : (t : List ℕ) (c : TidChange) → length (genTidChanged t c) ≡ length t
 unfolding genTidChanged putGenTid
-gen-tid-changed t Kept = refl
+gen-tid-changed t Unchanged = refl
 gen-tid-changed t (Set tid) = length-put t _ _
 
-cache-changed : (t : List ℕ) (peer : ℕ) (c : Header) → length (cacheChanged t peer c) ≡ length t
+cache-changed : (t : List ℕ) (peer : ℕ) (c : TidChange) → length (cacheChanged t peer c) ≡ length t
 unfolding cacheChanged putCached
-cache-changed t peer Kept = refl
+cache-changed t peer Unchanged = refl
 cache-changed t peer (Set cached) = length-put t _ _
 
 pub length-clock : (t : List ℕ) (time : ℕ) → length (putClock t time) ≡ length t
 unfolding putClock
 length-clock t time = length-put t _ _
 
-pub length-after : (t : List ℕ) (c : Changes) (exit : List ℕ) → length (tableAfter t c exit) ≡ length t
-unfolding tableAfter
+pub length-after : (t : List ℕ) (c : Changes) (exit : List ℕ) → length (tableChanged t c exit) ≡ length t
+unfolding tableChanged
 length-after t c exit =
     length-clock _ (c .time)
     ∙ cache-changed _ (c .peer) (c .cached)

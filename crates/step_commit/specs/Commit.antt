@@ -7,8 +7,8 @@ use Rattle.base_lists.specs.Seq.{put}
 use Rattle.table_layout.specs.Table.{putRecord, clearRecord, putGenTid, putCached, putClock}
 use Rattle.step_commit.specs.declared.Change.{Change}
 use Rattle.step_commit.specs.declared.Change.the-variants.{Nothing, Put, Clear}
-use Rattle.step_commit.specs.declared.Header.{Header}
-use Rattle.step_commit.specs.declared.Header.the-variants.{Kept, Set}
+use Rattle.step_commit.specs.declared.TidChange.{TidChange}
+use Rattle.step_commit.specs.declared.TidChange.the-variants.{Unchanged, Set}
 use Rattle.step_commit.specs.declared.Changes.{Changes}
 
 -- the record at a place: as it was, with other fields, or freed: "A freed record is zeroed"
@@ -22,17 +22,17 @@ unfoldable pub exitStored : List ℕ → ℕ → Bool → List ℕ → List ℕ
 exitStored t place true exit = put t (exitBase place) exit
 exitStored t place false exit = t
 
-unfoldable pub genTidChanged : List ℕ → Header → List ℕ
-genTidChanged t Kept = t
+unfoldable pub genTidChanged : List ℕ → TidChange → List ℕ
+genTidChanged t Unchanged = t
 genTidChanged t (Set tid) = putGenTid t tid
 
-unfoldable pub cacheChanged : List ℕ → ℕ → Header → List ℕ
-cacheChanged t peer Kept = t
+unfoldable pub cacheChanged : List ℕ → ℕ → TidChange → List ℕ
+cacheChanged t peer Unchanged = t
 cacheChanged t peer (Set cached) = putCached t peer cached
 
 -- 01: "An accepted call stores its time"
-unfoldable pub tableAfter : List ℕ → Changes → List ℕ → List ℕ
-tableAfter t c exit =
+unfoldable pub tableChanged : List ℕ → Changes → List ℕ → List ℕ
+tableChanged t c exit =
     putClock
     (cacheChanged
     (genTidChanged

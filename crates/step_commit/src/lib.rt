@@ -3,7 +3,7 @@ ghost use mathlib.Core.Path.{_≡_};
 ghost use Prim.Native.Nat.{_+_, _*_, _≤_, _<_};
 ghost use lib.ListN.{length};
 ghost use Rattle.base_layout.specs.Layout.{headerSize, recordSize, peers, exitBound};
-ghost use Rattle.step_commit.specs.Commit.{recordChanged, exitStored, genTidChanged, cacheChanged, tableAfter};
+ghost use Rattle.step_commit.specs.Commit.{recordChanged, exitStored, genTidChanged, cacheChanged, tableChanged};
 use base_layout::EXIT_OFFSET;
 use base_layout::HEADER_SIZE;
 use base_layout::RECORD_SIZE;
@@ -16,9 +16,9 @@ pub enum Change {
     Clear,
 }
 
-// A number of the header that is kept, or set to another.
-pub enum Header {
-    Kept,
+// What becomes of GenTID, or of a peer's cached TID.
+pub enum TidChange {
+    Unchanged,
     Set(u16),
 }
 
@@ -27,9 +27,9 @@ pub struct Changes {
     pub place: usize,
     pub change: Change,
     pub exit: bool,
-    pub gen_tid: Header,
+    pub gen_tid: TidChange,
     pub peer: usize,
-    pub cached: Header,
+    pub cached: TidChange,
     pub time: u64,
 }
 
@@ -54,23 +54,23 @@ fn store_exit(t: &mut [u8], place: usize, stored: bool, exit: &[u8])
     }
 }
 
-fn change_gen_tid(t: &mut [u8], change: Header)
+fn change_gen_tid(t: &mut [u8], change: TidChange)
     requires { ⌜ headerSize ≤ length (now t) ⌝ }
     ensures { λ _. ⌜ now (t .exit) ≡ genTidChanged (now (t .entry)) change ⌝ }
 {
     match change {
-        Header::Kept => {}
-        Header::Set(tid) => table_layout::put_gen_tid(t, tid),
+        TidChange::Unchanged => {}
+        TidChange::Set(tid) => table_layout::put_gen_tid(t, tid),
     }
 }
 
-fn change_cached(t: &mut [u8], peer: usize, change: Header)
+fn change_cached(t: &mut [u8], peer: usize, change: TidChange)
     requires { ⌜ (headerSize ≤ length (now t)) × (peer < peers) ⌝ }
     ensures { λ _. ⌜ now (t .exit) ≡ cacheChanged (now (t .entry)) peer change ⌝ }
 {
     match change {
-        Header::Kept => {}
-        Header::Set(cached) => table_layout::put_cached(t, peer, cached),
+        TidChange::Unchanged => {}
+        TidChange::Set(cached) => table_layout::put_cached(t, peer, cached),
     }
 }
 
@@ -78,7 +78,7 @@ fn change_cached(t: &mut [u8], peer: usize, change: Header)
 pub fn commit(t: &mut [u8], c: Changes, exit: &[u8])
     requires { ⌜ (headerSize + c .place * recordSize + recordSize ≤ length (now t)) × (c .peer < peers) ⌝ }
     requires { ⌜ length (now exit) ≤ exitBound ⌝ }
-    ensures { λ _. ⌜ now (t .exit) ≡ tableAfter (now (t .entry)) c (now (exit .entry)) ⌝ }
+    ensures { λ _. ⌜ now (t .exit) ≡ tableChanged (now (t .entry)) c (now (exit .entry)) ⌝ }
 {
     let place = c.place;
     let change = c.change;

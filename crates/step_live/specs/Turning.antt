@@ -3,7 +3,7 @@ use Prim.Native.Nat.{ℕ}
 use mathlib.Core.List.{List}
 use Rattle.table_record.specs.Record.{roleOf, classOf}
 use Rattle.table_record.specs.declared.Record.{Record}
-use Rattle.table_layout.specs.Table.{settingsOf, rowsOf, cachedOf, recordAt}
+use Rattle.table_layout.specs.Table.{settingsOf, intervalsOf, cachedOf, recordAt}
 use Rattle.table_layout.specs.declared.Settings.{Settings}
 use Rattle.row_events.specs.declared.Event.{Event}
 use Rattle.row_events.specs.declared.Row.{Row}
@@ -40,7 +40,7 @@ holderOf r place = record {
 
 -- the record's turn under that row
 unfoldable pub liveTurn : List ℕ → ℕ → Event → Given → Turn
-liveTurn t place event g = rowTurn (rowAt t place event) (recordAt t place) g (settingsOf t) (rowsOf t)
+liveTurn t place event g = rowTurn (rowAt t place event) (recordAt t place) g (settingsOf t) (intervalsOf t)
 
 -- the whole step of the record at a place
 unfoldable pub liveStep : List ℕ → ℕ → Event → Given → Call → Step

@@ -60,7 +60,7 @@ pub fn live_step(t: &[u8], place: usize, event: Event, g: Given, c: Call) -> Ste
     let r = table_layout::record_at(t, place);
     let s = table_layout::settings_of(t);
     let row = row_in(r, s, event);
-    let intervals = table_layout::rows_of(t);
+    let intervals = table_layout::intervals_of(t);
     let turn = row_turns::row_turn(row, r, g, s, intervals);
     let h = holder_of(r, place);
     let cached = table_layout::cached_of(t, base_lists::size(r.peer));

@@ -9,14 +9,14 @@ use row_turns::Given;
 use row_turns::Turn;
 use step_commit::Change;
 use step_commit::Changes;
-use step_commit::Header;
+use step_commit::TidChange;
 use step_plan::Call;
 use step_plan::Holder;
 use step_plan::Step;
 use table_finding::Found;
 
 // The changes of an opening for this holder, whose peer has this TID cached.
-fn opening_changes(turn: Turn, h: Holder, cached: u16, gen_tid: Header, time: u64) -> Changes
+fn opening_changes(turn: Turn, h: Holder, cached: u16, gen_tid: TidChange, time: u64) -> Changes
     requires { ⌜ h .tid ≤ tidBound ⌝ }
     ensures { λ r. ⌜ r ≡ openingChanges turn h cached «gen_tid» time ⌝ }
 {
@@ -51,7 +51,7 @@ pub fn opening_step(
     opening: Opening,
     h: Holder,
     g: Given,
-    gen_tid: Header,
+    gen_tid: TidChange,
     c: Call,
 ) -> Step
     requires { ⌜ (headerSize ≤ length (now t)) × (h .place < recordsBound) ⌝ }
@@ -61,7 +61,7 @@ pub fn opening_step(
 {
     let r = row_turns::new_record(h.peer, h.tid, h.up);
     let s = table_layout::settings_of(t);
-    let intervals = table_layout::rows_of(t);
+    let intervals = table_layout::intervals_of(t);
     let turn = row_turns::opening_turn(opening, r, g, s, intervals);
     let cached = table_layout::cached_of(t, base_lists::size(h.peer));
     let changes = opening_changes(turn, h, cached, gen_tid, g.time);

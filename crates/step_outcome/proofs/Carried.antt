@@ -5,7 +5,7 @@ use mathlib.Core.List.{List}
 use mathlib.Core.Bool.{Bool, true, false}
 use lib.ListN.{length}
 use Rattle.base_lists.proofs.StoresAndParts.{length-put}
-use Rattle.step_commit.specs.Commit.{tableAfter}
+use Rattle.step_commit.specs.Commit.{tableChanged}
 use Rattle.step_commit.proofs.Length.{length-after}
 use Rattle.step_plan.specs.declared.Part.{Part}
 use Rattle.step_plan.specs.declared.Step.{Step}
@@ -19,7 +19,7 @@ cell-length store true place given m = length-put store _ _
 cell-length store false place given m = refl
 
 module _ (l : Lent) (step : Step) (table store : List ℕ)
-    (t : table ≡ tableAfter (l .table) (step .changes) (l .exit))
+    (t : table ≡ tableChanged (l .table) (step .changes) (l .exit))
     (s : store ≡ cellWritten (l .store) (step .cell) (step .changes .place) (l .given) (step .message)) where
   pub sends-still : Ready l step → FitOut (l .given) store table (step .send) (step .by)
   sends-still ready =

@@ -8,7 +8,7 @@ use Rattle.base_layout.specs.Layout.{recordSize, base, peers, exitBound, cellSi
 use Rattle.base_lists.specs.Seq.{put, part}
 use Rattle.row_columns.specs.declared.Send.{Send}
 use Rattle.row_columns.specs.declared.Send.the-variants.{Nothing, Invoke, Tidok, LastAck, HoldOn, Tidve, Result, Abort}
-use Rattle.step_commit.specs.Commit.{tableAfter}
+use Rattle.step_commit.specs.Commit.{tableChanged}
 use Rattle.step_sending.specs.Sending.{sourceOf}
 use Rattle.step_sending.specs.Octets.{FitSend, octetsSent}
 use Rattle.step_sending.specs.declared.Sender.{Sender}
@@ -71,7 +71,7 @@ octetsOut given store table send by = octetsSent (sliceOf (sourceOf send) given 
 
 -- what a step leaves: the table after its changes, the store with the message, the octets sent
 unfoldable pub tableThen : Lent → Step → List ℕ
-tableThen l step = tableAfter (l .table) (step .changes) (l .exit)
+tableThen l step = tableChanged (l .table) (step .changes) (l .exit)
 
 unfoldable pub storeThen : Lent → Step → List ℕ
 storeThen l step = cellWritten (l .store) (step .cell) (step .changes .place) (l .given) (step .message)

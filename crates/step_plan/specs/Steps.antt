@@ -7,7 +7,7 @@ use Rattle.row_columns.specs.declared.Send.{Send}
 use Rattle.row_columns.specs.declared.Send.the-variants as Send
 use Rattle.row_turns.specs.declared.Turn.{Turn}
 use Rattle.step_commit.specs.declared.Change.the-variants as Change
-use Rattle.step_commit.specs.declared.Header.the-variants as Header
+use Rattle.step_commit.specs.declared.TidChange.the-variants as TidChange
 use Rattle.step_commit.specs.declared.Changes.{Changes}
 use Rattle.step_sending.specs.Sending.{sourceOf}
 use Rattle.step_sending.specs.declared.Sender.{Sender}
@@ -101,7 +101,7 @@ noSender = record { role = Initiator; tid = 0; class = 0; «user_ack» = false; 
 
 -- a call that changes nothing but the time
 unfoldable pub idleChanges : ℕ → Changes
-idleChanges time = record { place = 0; change = Change.Nothing; exit = false; «gen_tid» = Header.Kept; peer = 0; cached = Header.Kept; time = time }
+idleChanges time = record { place = 0; change = Change.Nothing; exit = false; «gen_tid» = TidChange.Unchanged; peer = 0; cached = TidChange.Unchanged; time = time }
 
 -- 01: "An accepted call stores its time", also where a PDU is ignored or none is due
 unfoldable pub idleStep : ℕ → Step

@@ -11,7 +11,7 @@ use row_columns::Send;
 use row_turns::Turn;
 use step_commit::Change;
 use step_commit::Changes;
-use step_commit::Header;
+use step_commit::TidChange;
 use step_sending::Sender;
 use step_shown::Context;
 use step_shown::Place;
@@ -206,9 +206,9 @@ pub fn idle(time: u64) -> Step
             place: 0,
             change: Change::Nothing,
             exit: false,
-            gen_tid: Header::Kept,
+            gen_tid: TidChange::Unchanged,
             peer: 0,
-            cached: Header::Kept,
+            cached: TidChange::Unchanged,
             time: time,
         },
         cell: false,

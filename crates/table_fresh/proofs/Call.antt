@@ -5,7 +5,7 @@ use Prim.Native.Nat.{ℕ}
 use lib.ListN.{length}
 use Rattle.base_numbers.specs.declared.Refusal.{Refusal}
 use Rattle.table_layout.specs.Table.{count}
-use Rattle.table_fresh.specs.Fresh.{freshAnswer, freshTable, tableAfter, leftBy}
+use Rattle.table_fresh.specs.Fresh.{freshAnswer, freshTable, tableAfterFresh, leftBy}
 use Rattle.table_fresh.specs.declared.Fresh.the-variants.{Made, Refused}
 use Rattle.table_fresh.proofs.Sizes.{size-told}
 use Rattle.table_fresh.proofs.Ranges.{in-range}
@@ -14,12 +14,12 @@ use Rattle.table_fresh.proofs.Facts.{FreshFacts, fresh-length, fresh-fa
 
 module _ (t ws : List ℕ) (first : ℕ) where
   pub refused-keeps : (r : Refusal) → freshAnswer (length t) ws first ≡ Refused r → leftBy t ws first .table ≡ t
-  unfolding leftBy tableAfter
+  unfolding leftBy tableAfterFresh
   refused-keeps r e = rw e refl
 
   module _ (e : freshAnswer (length t) ws first ≡ Made) where
     made-table : leftBy t ws first .table ≡ freshTable (count t) ws first
-    unfolding leftBy tableAfter
+    unfolding leftBy tableAfterFresh
     made-table = rw e refl
 
     pub made-facts : FreshFacts (leftBy t ws first .table) ws first

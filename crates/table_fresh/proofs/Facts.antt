@@ -11,7 +11,7 @@ use Rattle.base_octets.specs.Octets.{num, enc, gets}
 use Rattle.base_octets.proofs.StoredAndRead.{gets-part, num-enc, length-enc}
 use Rattle.table_record.specs.Record.{stateOf, decoded}
 use Rattle.table_record.specs.declared.State.the-variants.{Free}
-use Rattle.table_layout.specs.Table.{clockOf, genTidOf, settingsOf, fours, rowsOf, cachedOf, recordAt}
+use Rattle.table_layout.specs.Table.{clockOf, genTidOf, settingsOf, fours, intervalsOf, cachedOf, recordAt}
 use Rattle.table_fresh.specs.Fresh.{zeros, fourEach, fieldsOf, freshTable}
 use Rattle.table_fresh.specs.Conditions.{word, AllInRange}
 use Rattle.table_fresh.proofs.Zeros.{length-zeros, getD-zeros}
@@ -53,7 +53,7 @@ pub record FreshFacts (t ws : List ℕ) (first : ℕ) : Type 0 where
   pub clock : clockOf t ≡ 0
   pub gen-tid : genTidOf t ≡ first
   pub settings : settingsOf t ≡ record { «rcr_max» = word ws 0; «aec_max» = word ws 1; a = word ws 2; w = word ws 3 }
-  pub rows : rowsOf t ≡ tab (word ws) 9 4 ∷ tab (word ws) 9 13 ∷ []
+  pub rows : intervalsOf t ≡ tab (word ws) 9 4 ∷ tab (word ws) 9 13 ∷ []
   pub spare : (k : ℕ) → headerSpareAt ≤ k → k < cachedAt → getD t k 0 ≡ 0
   pub cached : (peer : ℕ) → cachedOf t peer ≡ 0
   pub free : (i : ℕ) → recordAt t i .state ≡ Free
@@ -100,8 +100,8 @@ module _ (n : ℕ) (ws : List ℕ) (first : ℕ) where
       let j : num (gets 4 16 (freshTable n ws first)) ≡ word ws 3 = ap (λ (l : List ℕ). getD l 1 0) (intervals-read a) in
       rw (maxima-read .0, maxima-read .1, r, c, i, j) refl
 
-  rows-read : AllInRange ws first → rowsOf (freshTable n ws first) ≡ tab (word ws) 9 4 ∷ tab (word ws) 9 13 ∷ []
-  unfolding rowsOf fours tab
+  rows-read : AllInRange ws first → intervalsOf (freshTable n ws first) ≡ tab (word ws) 9 4 ∷ tab (word ws) 9 13 ∷ []
+  unfolding intervalsOf fours tab
   rows-read a = ap (λ (l : List ℕ). take 9 (drop 2 l) ∷ take 9 (drop 11 l) ∷ []) (intervals-read a)
 
   free-read : (i : ℕ) → recordAt (freshTable n ws first) i .state ≡ Free

@@ -60,9 +60,9 @@ unfoldable pub freshTable : ℕ → List ℕ → ℕ → List ℕ
 freshTable n ws first = zeros genTidAt ++ (fieldsOf ws first ++ zeros (headerSpareSize + peers * 2 + n * recordSize))
 
 -- 01: "A refusal gives only its number and changes no lent byte"
-unfoldable pub tableAfter : Fresh → List ℕ → List ℕ → ℕ → List ℕ
-tableAfter Made t ws first = freshTable (count t) ws first
-tableAfter (Refused r) t ws first = t
+unfoldable pub tableAfterFresh : Fresh → List ℕ → List ℕ → ℕ → List ℕ
+tableAfterFresh Made t ws first = freshTable (count t) ws first
+tableAfterFresh (Refused r) t ws first = t
 
 -- what the call leaves: its answer and the table
 pub record Left : Type 0 where
@@ -75,4 +75,4 @@ left a t = record { answer = a; table = t }
 
 -- what the call leaves of a table, for the settings ws and the first GenTID
 unfoldable pub leftBy : List ℕ → List ℕ → ℕ → Left
-leftBy t ws first = left (freshAnswer (length t) ws first) (tableAfter (freshAnswer (length t) ws first) t ws first)
+leftBy t ws first = left (freshAnswer (length t) ws first) (tableAfterFresh (freshAnswer (length t) ws first) t ws first)

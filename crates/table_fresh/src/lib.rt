@@ -101,7 +101,7 @@ fn in_range(ws: &[u64], first: u64) -> bool
     }
 }
 
-fn judged(len: usize, ws: &[u64], first: u64) -> Fresh
+fn fresh_answer(len: usize, ws: &[u64], first: u64) -> Fresh
     ensures { λ r. ⌜ r ≡ freshAnswer len (now (ws .entry)) first ⌝ }
 {
     if right_size(len) {
@@ -161,7 +161,7 @@ fn put_fresh(t: &mut [u8], ws: &[u64], first: u64)
 pub fn make_fresh(table: &mut [u8], settings: &[u64], first_tid: u64) -> Fresh
     ensures { λ r. ⌜ left r (now (table .exit)) ≡ leftBy (now (table .entry)) (now (settings .entry)) «first_tid» ⌝ }
 {
-    let answer = judged(table.len(), settings, first_tid);
+    let answer = fresh_answer(table.len(), settings, first_tid);
     match answer {
         Fresh::Made => {
             put_fresh(table, settings, first_tid);

@@ -12,7 +12,7 @@ use Rattle.base_layout.specs.Layout.{headerSpareAt, headerSpareSize, cachedBoun
 use Rattle.base_lists.proofs.StoresAndParts.{every-all, every-at}
 use Rattle.base_lists.specs.Seq.{every}
 use Rattle.base_octets.specs.Octets.{num, gets}
-use Rattle.table_layout.specs.Table.{fours, rowsOf, settingsOf, cachedOf}
+use Rattle.table_layout.specs.Table.{fours, intervalsOf, settingsOf, cachedOf}
 use Rattle.table_layout.specs.declared.Settings.{Settings}
 use Rattle.table_ranges.specs.Ranges.{Interval, interval}
 use Rattle.table_ranges.proofs.Tests.{Each, each, all, interval-to, interval-from}
@@ -28,18 +28,18 @@ fours-at (suc n) at (suc k) t h =
     rw e (fours-at n (at + 4) k t (omega arith))
 
 -- the two rows are the 18 intervals, row after row
-pub row-at : (t : List ℕ) (row rcr : ℕ) → row < 2 → rcr < 9 → getD (getD (rowsOf t) row []) rcr 0 ≡ intervalAt t (row * 9 + rcr)
-unfolding rowsOf intervalAt
+pub row-at : (t : List ℕ) (row rcr : ℕ) → row < 2 → rcr < 9 → getD (getD (intervalsOf t) row []) rcr 0 ≡ intervalAt t (row * 9 + rcr)
+unfolding intervalsOf intervalAt
 row-at t zero rcr h l = rw zero-add (fours-at 9 20 rcr t l)
 row-at t (suc zero) rcr h l =
     let e : 20 + (9 + rcr) * 4 ≡ 56 + rcr * 4 = omega arith in
     rw e (fours-at 9 56 rcr t l)
 row-at t (suc (suc row)) rcr h l = absurd (omega arith)
 
-rows-to : (t : List ℕ) → every (λ k. interval (intervalAt t k)) 18 ≡ true → RowsOk (rowsOf t)
+rows-to : (t : List ℕ) → every (λ k. interval (intervalAt t k)) 18 ≡ true → RowsOk (intervalsOf t)
 rows-to t h row rcr a b = rw (row-at t row rcr a b) (interval-to _ (every-at (λ k. interval (intervalAt t k)) 18 h (row * 9 + rcr) (omega arith)))
 
-rows-from : (t : List ℕ) → RowsOk (rowsOf t) → every (λ k. interval (intervalAt t k)) 18 ≡ true
+rows-from : (t : List ℕ) → RowsOk (intervalsOf t) → every (λ k. interval (intervalAt t k)) 18 ≡ true
 rows-from t h = every-all (λ k. interval (intervalAt t k)) 18 (λ k l. interval-from _ (at k l)) where
   at : (k : ℕ) → k < 18 → Interval (intervalAt t k)
   at k l =

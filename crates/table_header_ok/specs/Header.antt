@@ -7,7 +7,7 @@ use lib.Dec.{leb}
 use Rattle.base_layout.specs.Layout.{row1At, headerSpareAt, headerSpareSize, timeBound, maximumBound, tidBound, cachedBound, peers}
 use Rattle.base_lists.specs.Seq.{every}
 use Rattle.base_octets.specs.Octets.{num, gets}
-use Rattle.table_layout.specs.Table.{clockOf, genTidOf, settingsOf, rowsOf, cachedOf}
+use Rattle.table_layout.specs.Table.{clockOf, genTidOf, settingsOf, intervalsOf, cachedOf}
 use Rattle.table_layout.specs.declared.Settings.{Settings}
 use Rattle.table_ranges.specs.Ranges.{Interval, interval, Zeros, zeros, allOf}
 
@@ -28,7 +28,7 @@ pub record HeaderOk (t : List ℕ) : Type 0 where
   pub gen-tid : genTidOf t ≤ tidBound
   pub settings : SettingsOk (settingsOf t)
   pub spare : Zeros t headerSpareAt headerSpareSize
-  pub rows : RowsOk (rowsOf t)
+  pub rows : RowsOk (intervalsOf t)
   pub cached : (peer : ℕ) → peer < peers → cachedOf t peer ≤ cachedBound
 
 -- the test of the settings

@@ -10,7 +10,7 @@ use Rattle.base_lists.specs.Seq.{put}
 use Rattle.base_octets.specs.Octets.{num}
 use Rattle.base_octets.proofs.StoredAndRead.{Apart, gets-apart, getD-before, getD-after}
 use Rattle.table_record.specs.Record.{decoded}
-use Rattle.table_layout.specs.Table.{clockOf, genTidOf, fours, settingsOf, rowsOf, cachedOf, recordAt}
+use Rattle.table_layout.specs.Table.{clockOf, genTidOf, fours, settingsOf, intervalsOf, cachedOf, recordAt}
 
 pub clock-apart : (t : List ℕ) (b : ℕ) (w : List ℕ) → 8 ≤ b → clockOf (put t b w) ≡ clockOf t
 unfolding clockOf
@@ -36,8 +36,8 @@ fours-apart zero at t b w h = refl
 fours-apart (suc n) at t b w (inl h) = rw (gets-apart 4 at t b w (inl (omega arith)), fours-apart n (at + 4) t b w (inl (omega arith)))
 fours-apart (suc n) at t b w (inr h) = rw (gets-apart 4 at t b w (inr (omega arith)), fours-apart n (at + 4) t b w (inr (omega arith)))
 
-pub rows-apart : (t : List ℕ) (b : ℕ) (w : List ℕ) → Apart 10 82 b (length w) → rowsOf (put t b w) ≡ rowsOf t
-unfolding rowsOf
+pub rows-apart : (t : List ℕ) (b : ℕ) (w : List ℕ) → Apart 10 82 b (length w) → intervalsOf (put t b w) ≡ intervalsOf t
+unfolding intervalsOf
 rows-apart t b w (inl h) = rw (fours-apart 9 20 t b w (inl (omega arith)), fours-apart 9 56 t b w (inl (omega arith)))
 rows-apart t b w (inr h) = rw (fours-apart 9 20 t b w (inr (omega arith)), fours-apart 9 56 t b w (inr (omega arith)))
 

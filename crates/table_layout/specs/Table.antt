@@ -31,8 +31,8 @@ fours zero at t = []
 fours (suc n) at t = num (gets 4 at t) ∷ fours n (at + 4) t
 
 -- 01: "R[RCR] is one of two rows of nine intervals, class 1 and class 2"
-unfoldable pub rowsOf : List ℕ → List (List ℕ)
-rowsOf t = fours 9 row1At t ∷ fours 9 row2At t ∷ []
+unfoldable pub intervalsOf : List ℕ → List (List ℕ)
+intervalsOf t = fours 9 row1At t ∷ fours 9 row2At t ∷ []
 
 -- the cached TID of a peer: 0 is none, else the TID and 1
 unfoldable pub cachedOf : List ℕ → ℕ → ℕ

@@ -3,7 +3,7 @@ ghost use mathlib.Core.Path.{_≡_};
 ghost use Prim.Native.Nat.{_+_, _*_, _≤_, _<_};
 ghost use lib.ListN.{length};
 ghost use Rattle.base_layout.specs.Layout.{headerSize, recordSize, peers};
-ghost use Rattle.table_layout.specs.Table.{count, clockOf, genTidOf, settingsOf, fours, rowsOf, cachedOf, recordAt, putRecord, clearRecord, putClock, putGenTid, putCached};
+ghost use Rattle.table_layout.specs.Table.{count, clockOf, genTidOf, settingsOf, fours, intervalsOf, cachedOf, recordAt, putRecord, clearRecord, putClock, putGenTid, putCached};
 use base_layout::HEADER_SIZE;
 use base_layout::RECORD_SIZE;
 use table_record::Record;
@@ -67,9 +67,9 @@ fn row_of(t: &[u8], at: usize) -> [u32; 9]
 }
 
 // 01: "one of two rows of nine intervals, class 1 and class 2".
-pub fn rows_of(t: &[u8]) -> [[u32; 9]; 2]
+pub fn intervals_of(t: &[u8]) -> [[u32; 9]; 2]
     requires { ⌜ headerSize ≤ length (now t) ⌝ }
-    ensures { λ r. ⌜ r ≡ rowsOf (now (t .entry)) ⌝ }
+    ensures { λ r. ⌜ r ≡ intervalsOf (now (t .entry)) ⌝ }
 {
     let one = row_of(t, base_layout::ROW_1_AT);
     let two = row_of(t, base_layout::ROW_2_AT);

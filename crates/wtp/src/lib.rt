@@ -4,7 +4,7 @@ ghost use mathlib.Core.List.{[]};
 ghost use lib.ListN.{length};
 ghost use lib.Dec.{ltb};
 ghost use Rattle.step_outcome.specs.Carry.{lent};
-ghost use Rattle.table_fresh.specs.Fresh.{tableBytes, freshAnswer, freshNumber, tableAfter};
+ghost use Rattle.table_fresh.specs.Fresh.{tableBytes, freshAnswer, freshNumber, tableAfterFresh};
 ghost use Rattle.c_codec.specs.Calls.{readNumber, fieldsAfter, writeNumber, writeOutput, writeAnswer, separateNumber, partAfter, joinNumber, joinOutput, joinAnswer};
 ghost use Rattle.call_plans.specs.Calls.{Call};
 ghost use Rattle.wtp.specs.Engine.{called, calledBy};
@@ -21,7 +21,7 @@ pub extern "C" fn wtp_table_bytes(records: u64) -> u64
 // Makes a table fresh.
 #[no_mangle]
 pub extern "C" fn wtp_fresh(table: &mut [u8], settings: &[u64], first_tid: u64) -> u64
-    ensures { λ r. ⌜ (r ≡ freshNumber (freshAnswer (length (now (table .entry))) (now (settings .entry)) «first_tid»)) × (now (table .exit) ≡ tableAfter (freshAnswer (length (now (table .entry))) (now (settings .entry)) «first_tid») (now (table .entry)) (now (settings .entry)) «first_tid») ⌝ }
+    ensures { λ r. ⌜ (r ≡ freshNumber (freshAnswer (length (now (table .entry))) (now (settings .entry)) «first_tid»)) × (now (table .exit) ≡ tableAfterFresh (freshAnswer (length (now (table .entry))) (now (settings .entry)) «first_tid») (now (table .entry)) (now (settings .entry)) «first_tid») ⌝ }
 {
     c_codec::make_fresh(table, settings, first_tid)
 }

@@ -7,6 +7,6 @@ pub primitive-spec : {M : Type 1} → statement M
 primitive-spec =
     tie.close (tie.spec
     (λ c κs. search needs)
-    (λ c κs. rw (c .before .before .before .planned .ensures) (c .before .before .before .before .before .before .before .before .before .before .pre))
+    (λ c κs. rw (c .before .before .before .primitive-plan .ensures) (c .before .before .before .before .before .before .before .before .before .before .pre))
     (λ c. search needs) (λ c. search needs) (λ c. search needs)
-    (λ c. rw (← (c .before .before .before .before .before .before .before .before .before .before .planned .ensures)) (c .before .before .before .before .before .before .carried .ensures)))
+    (λ c. rw (← (c .before .before .before .before .before .before .before .before .before .before .primitive-plan .ensures)) (c .before .before .before .before .before .before .carried .ensures)))

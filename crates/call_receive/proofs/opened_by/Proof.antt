@@ -1,5 +1,5 @@
 -- `call_receive::opened_by` meets its contract: the way to each return picks the case of the definition. Assumes nothing.
-use Rattle.call_receive.proofs.Kept.{kept-fits}
+use Rattle.call_receive.proofs.KeptData.{kept-fits}
 use Rattle.call_receive.specs.Receives.{openedStep, openedGiven, openedCall, userPart}
 use borrow.Author.Needs.{needs}
 use Rattle.call_receive.proofs.opened_by.Statement.{statement}

@@ -11,4 +11,4 @@ with-place-spec =
     (λ c κs. search needs)
     (λ c. simp (c .if1 .taken, ← (c .before .none-free .ensures)))
     (λ c κs. search needs) (λ c κs. search needs)
-    (λ c. simp (c .step-for .ensures, c .before .place-for .ensures, c .before .before .if1 .left, ← (c .before .before .before .none-free .ensures))))
+    (λ c. simp (c .request-step .ensures, c .before .place-for .ensures, c .before .before .if1 .left, ← (c .before .before .before .none-free .ensures))))

@@ -14,20 +14,20 @@ returns c =
 write-requires : tie.Need-write-requires
 write-requires c κs =
     let b = c .before .before .before .before in
-    (accepted _ _ _ (sym (b .planned .ensures) ∙ c .before .before .n .given .1), b .before .if1 .left)
+    (accepted _ _ _ (sym (b .joining-plan .ensures) ∙ c .before .before .n .given .1), b .before .if1 .left)
 
 returns-2 : tie.Need-returns-2
 returns-2 c =
     let b = c .before .before .before in
     let a = b .before .before .before .before .before .args in
-    rw (large-enough (now (a .bytes)) (now (a .lengths)) (now (a .out)) (b .before .if1 .left) ∙ sym (b .planned .ensures) ∙ c .before .r .given .1) (refl, refl)
+    rw (large-enough (now (a .bytes)) (now (a .lengths)) (now (a .out)) (b .before .if1 .left) ∙ sym (b .joining-plan .ensures) ∙ c .before .r .given .1) (refl, refl)
 
 returns-3 : tie.Need-returns-3
 returns-3 c =
     let d = c .before .before .before .before .before in
     let b = d .before .before in
     let a = b .before .before .before .before .before .args in
-    rw (large-enough (now (a .bytes)) (now (a .lengths)) (now (a .out)) (b .before .if1 .left) ∙ sym (b .planned .ensures) ∙ d .n .given .1) (refl, c .before .before .write .ensures)
+    rw (large-enough (now (a .bytes)) (now (a .lengths)) (now (a .out)) (b .before .if1 .left) ∙ sym (b .joining-plan .ensures) ∙ d .n .given .1) (refl, c .before .before .write .ensures)
 
 pub join-spec : {M : Type 1} → statement M
 join-spec =

@@ -12,7 +12,7 @@ put-pdu-requires : tie.Need-put-pdu-requires
 put-pdu-requires c κs =
     let b = c .before .before .before in
     let a = b .before .before .before .before .args in
-    let w = plan-writable (now (a .fields)) (now (a .bytes)) (length (now (a .out))) (b .planned .result) (b .planned .ensures) (sym (c .before .before .sound .ensures) ∙ c .before .if1 .taken) in
+    let w = plan-writable (now (a .fields)) (now (a .bytes)) (length (now (a .out))) (b .writing-plan .result) (b .writing-plan .ensures) (sym (c .before .before .sound .ensures) ∙ c .before .if1 .taken) in
     (w .0 .fit, (w .0 .few, omega (arith, w .0 .short, w .1)))
 
 returns : tie.Need-returns
@@ -20,13 +20,13 @@ returns c =
     let d = c .before .before .before in
     let b = d .before .before .before .before in
     let a = b .before .before .before .before .args in
-    wrote (now (a .fields)) (now (a .bytes)) (now (a .out)) (b .planned .result) (b .planned .ensures) _ _ _ (sym (d .before .before .before .sound .ensures) ∙ d .before .before .if1 .taken) (d .put-pdu .ensures .0) (d .put-pdu .ensures .1) (c .answer .ensures)
+    wrote (now (a .fields)) (now (a .bytes)) (now (a .out)) (b .writing-plan .result) (b .writing-plan .ensures) _ _ _ (sym (d .before .before .before .sound .ensures) ∙ d .before .before .if1 .taken) (d .put-pdu .ensures .0) (d .put-pdu .ensures .1) (c .answer .ensures)
 
 returns-2 : tie.Need-returns-2
 returns-2 c =
     let b = c .before .before .before in
     let a = b .before .before .before .before .args in
-    wrote-nothing (now (a .fields)) (now (a .bytes)) (now (a .out)) (b .planned .result) (b .planned .ensures) _ (sym (c .before .before .sound .ensures) ∙ c .before .if1 .left) (c .answer2 .ensures)
+    wrote-nothing (now (a .fields)) (now (a .bytes)) (now (a .out)) (b .writing-plan .result) (b .writing-plan .ensures) _ (sym (c .before .before .sound .ensures) ∙ c .before .if1 .left) (c .answer2 .ensures)
 
 pub write-spec : {M : Type 1} → statement M
 write-spec =

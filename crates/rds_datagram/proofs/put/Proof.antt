@@ -13,7 +13,7 @@ use Rattle.rds_datagram.proofs.put.Tie as tie
 put-head-requires : tie.Need-put-head-requires
 put-head-requires c κs =
     let d = c .before .before in
-    omega (arith, roomy _ _ _ _ _ (sym (d .before .before .planned .ensures) ∙ d .n .given .1))
+    omega (arith, roomy _ _ _ _ _ (sym (d .before .before .putting-plan .ensures) ∙ d .n .given .1))
 
 store-requires : tie.Need-store-requires
 store-requires c κs =
@@ -21,7 +21,7 @@ store-requires c κs =
     let d = c .before .before .before .before .before .before in
     let x = d .before .before .before .before .before .before .args in
     omega
-    (arith, h .0, ap length (h .1), length-put (now (x .out)) 0 (headOctets (x .ports) (x .source) (x .destination) (x .number)), head-length (x .ports) (x .source) (x .destination) (x .number), roomy _ _ _ _ _ (sym (d .before .before .planned .ensures) ∙ d .n .given .1))
+    (arith, h .0, ap length (h .1), length-put (now (x .out)) 0 (headOctets (x .ports) (x .source) (x .destination) (x .number)), head-length (x .ports) (x .source) (x .destination) (x .number), roomy _ _ _ _ _ (sym (d .before .before .putting-plan .ensures) ∙ d .n .given .1))
 
 returns-2 : tie.Need-returns-2
 unfolding putOf putBy
@@ -30,7 +30,7 @@ returns-2 c =
     let d = c .before .before .before .before .before .before .before .before .before in
     let x = d .before .before .before .before .before .before .args in
     let e = (rw (h .1, h .0) at (c .before .before .store .ensures)) ∙ (two-stores (now (x .out)) (headOctets (x .ports) (x .source) (x .destination) (x .number)) (now (x .datagram))) in
-    rw (← d .before .before .before .fit .ensures, ← d .before .before .planned .ensures, d .n .given .1) (ap (done _) e)
+    rw (← d .before .before .before .fit .ensures, ← d .before .before .putting-plan .ensures, d .n .given .1) (ap (done _) e)
 
 pub put-spec : {M : Type 1} → statement M
 unfolding putOf putBy
@@ -38,5 +38,5 @@ put-spec =
     tie.close (tie.spec
     (λ c κs. search needs) (λ c κs. search needs) (λ c. search needs) (λ c. search needs) put-head-requires
     store-requires
-    (λ c. rw (← c .before .before .before .before .fit .ensures, ← c .before .before .before .planned .ensures, c .before .r .given .1))
+    (λ c. rw (← c .before .before .before .before .fit .ensures, ← c .before .before .before .putting-plan .ensures, c .before .r .given .1))
     (λ c. search needs) returns-2)

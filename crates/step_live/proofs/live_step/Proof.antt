@@ -7,7 +7,7 @@ use Rattle.step_live.proofs.live_step.Tie as tie
 
 returns : tie.Need-returns
 unfolding liveStep liveTurn rowAt
-returns c = simp (c .step-of .ensures, c .before .turn-changes .ensures, c .before .before .cached-of .ensures, c .before .before .before .size .ensures .0, c .before .before .before .before .holder-of .ensures, c .before .before .before .before .before .row-turn .ensures, c .before .before .before .before .before .before .rows-of .ensures, c .before .before .before .before .before .before .before .row-in .ensures, c .before .before .before .before .before .before .before .before .settings-of .ensures, c .before .before .before .before .before .before .before .before .before .record-at .ensures)
+returns c = simp (c .step-of .ensures, c .before .turn-changes .ensures, c .before .before .cached-of .ensures, c .before .before .before .size .ensures .0, c .before .before .before .before .holder-of .ensures, c .before .before .before .before .before .row-turn .ensures, c .before .before .before .before .before .before .intervals-of .ensures, c .before .before .before .before .before .before .before .row-in .ensures, c .before .before .before .before .before .before .before .before .settings-of .ensures, c .before .before .before .before .before .before .before .before .before .record-at .ensures)
 
 pub live-step-spec : {M : Type 1} → statement M
 unfolding holderOf

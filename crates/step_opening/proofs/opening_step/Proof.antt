@@ -10,4 +10,4 @@ opening-step-spec =
     tie.close (tie.spec
     (λ c κs. search needs) (λ c κs. search needs) (λ c κs. search needs) (λ c κs. search needs) (λ c κs. search needs)
     (λ c κs. search needs) (λ c κs. search needs) (λ c κs. search needs)
-    (λ c. simp (c .step-of .ensures, c .before .opening-changes .ensures, c .before .before .cached-of .ensures, c .before .before .before .size .ensures .0, c .before .before .before .before .opening-turn .ensures, c .before .before .before .before .before .rows-of .ensures, c .before .before .before .before .before .before .settings-of .ensures, c .before .before .before .before .before .before .before .new-record .ensures)))
+    (λ c. simp (c .step-of .ensures, c .before .opening-changes .ensures, c .before .before .cached-of .ensures, c .before .before .before .size .ensures .0, c .before .before .before .before .opening-turn .ensures, c .before .before .before .before .before .intervals-of .ensures, c .before .before .before .before .before .before .settings-of .ensures, c .before .before .before .before .before .before .before .new-record .ensures)))
