@@ -29,7 +29,7 @@ use Rattle.call_plans.specs.Calls.{Call, Lends, promised, planFor, timeOf}
 use Rattle.law_plans_sound.proofs.CallSound.{call-sound}
 use Rattle.law_calls.proofs.Outcomes.{as-planned}
 use Rattle.law_afterwards.specs.Ways.{TakenBy, ComesAlone, tableLeft}
-use Rattle.law_afterwards.proofs.Left.{put-left, cleared-left, none-left}
+use Rattle.law_commit.proofs.Left.{put-left, cleared-left, none-left}
 use Rattle.law_afterwards.proofs.Ways.{call-way}
 
 module _ (c : Call) (l : Lent) (step : Step) (lends : Lends c l) (goes : planFor c l ≡ Go step) where

@@ -19,7 +19,7 @@ use Rattle.law_ways.proofs.CallWays.{call-ways}
 use Rattle.law_plans_sound.proofs.CallSound.{way-sound}
 use Rattle.law_calls.proofs.GenTid.{step-leaves}
 use Rattle.law_afterwards.specs.GenTid.{genTidAfter}
-use Rattle.law_afterwards.proofs.Left.{headerThen, gen-tid-left}
+use Rattle.law_commit.proofs.Left.{headerThen, gen-tid-left}
 
 module _ (c : Call) (l : Lent) (lends : Lends c l) where
   -- the column of an accepted call: a request's sets it one higher, any other's keeps it

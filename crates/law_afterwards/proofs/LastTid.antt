@@ -34,7 +34,7 @@ use Rattle.law_plans_sound.proofs.CallSound.{call-sound}
 use Rattle.law_calls.proofs.Outcomes.{as-planned}
 use Rattle.law_afterwards.specs.Ways.{TakenBy, ComesAlone, tableLeft}
 use Rattle.law_afterwards.specs.LastTid.{lastTidOf, openingLastTid, lastTidBy}
-use Rattle.law_afterwards.proofs.Left.{headerThen, cached-left}
+use Rattle.law_commit.proofs.Left.{headerThen, cached-left}
 use Rattle.law_afterwards.proofs.Ways.{call-way}
 
 -- the cached TID that the changes set is the one that document 01 names

@@ -1,4 +1,3 @@
-pub mod Left
 pub mod Ways
 pub mod GenTid
 pub mod LastTid

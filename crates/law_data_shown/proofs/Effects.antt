@@ -27,7 +27,7 @@ use Rattle.law_plans_sound.proofs.CallSound.{call-sound}
 use Rattle.law_history.specs.Trace.{Entry, Promise}
 use Rattle.law_ways.proofs.Ways.{Accepted}
 use Rattle.law_ways.proofs.CallWays.{call-ways}
-use Rattle.law_data_shown.proofs.Fields.{left-there, put-there, cleared-there}
+use Rattle.law_commit.proofs.Left.{put-left, cleared-left, none-left}
 use Rattle.law_data_shown.proofs.Cells.{part-same, part-written}
 
 -- what a step leaves: every other record, and at its place what its change says; the store, but for the message
@@ -90,9 +90,9 @@ module _ (l : Lent) (step : Step) (f : Fits l) (small : step .message .len ≤ c
     same-length = kept .table .same-length;
     same-store = same-size;
     others = kept .table .other-records;
-    untouched = λ e. left-there (l .table) (step .changes) (l .exit) (f .formed) (ok .allowed) e;
-    put-is = λ r e. put-there (l .table) (step .changes) (l .exit) (f .formed) (ok .allowed) r e;
-    freed = λ e. cleared-there (l .table) (step .changes) (l .exit) (f .formed) (ok .allowed) e;
+    untouched = λ e. none-left (l .table) (step .changes) (l .exit) (f .formed) (ok .allowed) e (step .changes .place);
+    put-is = λ r e. put-left (l .table) (step .changes) (l .exit) (f .formed) (ok .allowed) r e;
+    freed = λ e. cleared-left (l .table) (step .changes) (l .exit) (f .formed) (ok .allowed) e;
     unwritten = unwritten-store;
     written = written-store;
     other-cells = cells;

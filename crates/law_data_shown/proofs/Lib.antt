@@ -1,5 +1,4 @@
 pub mod InvokeKind
-pub mod Fields
 pub mod Cells
 pub mod Effects
 pub mod Indicated

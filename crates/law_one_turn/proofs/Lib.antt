@@ -3,7 +3,6 @@ pub mod Sent
 pub mod Shown
 pub mod Roles
 pub mod Counted
-pub mod Records
 pub mod Openings
 pub mod Left
 pub mod Turned
