@@ -25,7 +25,7 @@ bit-flag false = refl
 flag-is : (w x : ℕ) (b : Bool) → x / w % 2 ≡ bit b → flag w x ≡ b
 flag-is w x b e = ap (λ (y : ℕ). eqb y 1) e ∙ bit-flag b
 
-responds-twice : (r n : Bool) → responds (responds r n) n ≡ r
+pub responds-twice : (r n : Bool) → responds (responds r n) n ≡ r
 unfolding responds
 responds-twice true true = refl
 responds-twice true false = refl
@@ -84,14 +84,14 @@ module _ (k : Kind) (s d : ℕ) (t : List ℕ) where
   ports-two false b c n = λ i. head k false (sym (n .no-ports refl .0) i) (sym (n .no-ports refl .1) i) 2
 
 -- a frame of two octets or more that is no UI frame
-two-octets : (b c : ℕ) (r : List ℕ) (network : Bool) → b < 128 → (b / 32 ≡ 2 → ⊥) → headOf (b ∷ c ∷ r) network ≡ portsAfter (b ∷ c ∷ r) (kindOf b c network) (flag 8 b) 2
+pub two-octets : (b c : ℕ) (r : List ℕ) (network : Bool) → b < 128 → (b / 32 ≡ 2 → ⊥) → headOf (b ∷ c ∷ r) network ≡ portsAfter (b ∷ c ∷ r) (kindOf b c network) (flag 8 b) 2
 unfolding headOf
 two-octets b c r network low ui =
     let some : suc (suc (length r)) ≡ 0 → ⊥ = λ h. omega arith in
     let two : 2 ≤ suc (suc (length r)) = omega arith in
     simp (ne-eqb _ _ some, lt-leb _ _ low, ne-eqb _ _ ui, le-ltb _ _ two)
 
-one-octet : (b : ℕ) (r : List ℕ) (network : Bool) → b < 128 → b / 32 ≡ 2 → headOf (b ∷ r) network ≡ portsAfter (b ∷ r) (K.Ui (b % 8)) (flag 8 b) 1
+pub one-octet : (b : ℕ) (r : List ℕ) (network : Bool) → b < 128 → b / 32 ≡ 2 → headOf (b ∷ r) network ≡ portsAfter (b ∷ r) (K.Ui (b % 8)) (flag 8 b) 1
 unfolding headOf
 one-octet b r network low ui =
     let some : suc (length r) ≡ 0 → ⊥ = λ h. omega arith in

@@ -31,7 +31,7 @@ use Rattle.rds_written.proofs.Headers.{head, head-again}
 use Rattle.rds_written.proofs.Bodies.{Back, body-back}
 
 -- a U frame that the table of M and direction has
-u-narrow : (m : ℕ) (response : Bool) → (uKind (m % 16) response ≡ K.Wrong → ⊥) → NarrowKind (uKind (m % 16) response)
+pub u-narrow : (m : ℕ) (response : Bool) → (uKind (m % 16) response ≡ K.Wrong → ⊥) → NarrowKind (uKind (m % 16) response)
 unfolding uKind NarrowKind
 u-narrow m true h = go (answered (m % 16)) refl h where
   go : (b : Bool) → answered (m % 16) ≡ b → (pick b (K.U (m % 16) true) K.Wrong ≡ K.Wrong → ⊥) → NarrowKind (pick b (K.U (m % 16) true) K.Wrong)
