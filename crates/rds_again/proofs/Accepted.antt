@@ -110,7 +110,7 @@ module _ (s : List ℕ) (network : Bool) (octet : (i : ℕ) → getD s i 0 < 256
   G = frameOf s network
 
   -- a sound frame is not too long, and its body is that of its kind
-  short-body : (length s - h .end ≤ 1520) × (bodyAfter s h ≡ bodyBy s (h .end) (h .ads) (h .kind))
+  pub short-body : (length s - h .end ≤ 1520) × (bodyAfter s h ≡ bodyBy s (h .end) (h .ads) (h .kind))
   unfolding frameOf bodyAfter noList
   short-body = go (leb (length s - h .end) 1520) refl sound where
     go : (b : Bool) → leb (length s - h .end) 1520 ≡ b → soundBody (pick b (bodyBy s (h .end) (h .ads) (h .kind)) (noList B.Wrong) .body) ≡ true
@@ -118,7 +118,7 @@ module _ (s : List ℕ) (network : Bool) (octet : (i : ℕ) → getD s i 0 < 256
     go true p q = (leb-true (length s - h .end) 1520 p, refl)
     go false p q = true-false (sym q)
 
-  sound-body : soundBody (bodyBy s (h .end) (h .ads) (h .kind) .body) ≡ true
+  pub sound-body : soundBody (bodyBy s (h .end) (h .ads) (h .kind) .body) ≡ true
   unfolding frameOf
   sound-body = ap (λ (m : Managed). soundBody (m .body)) (sym (short-body .1)) ∙ sound
 
@@ -127,7 +127,7 @@ module _ (s : List ℕ) (network : Bool) (octet : (i : ℕ) → getD s i 0 < 256
     no-true : soundBody (bodyBy s (h .end) (h .ads) K.Wrong .body) ≡ true → ⊥
     no-true = wrong-body s (h .end) (h .ads)
 
-  head-was : HeadKept s network h
+  pub head-was : HeadKept s network h
   head-was = head-kept s network octet some-kind
 
   kept : Kept s (h .kind) (h .ads) (bit (h .ads)) (h .source) (h .destination) (bodyAfter s h)
