@@ -24,7 +24,7 @@ extern "C" {
 #define RDS_WRONG_SIZE 1    /* too few words or too little output */
 #define RDS_WRONG_VALUE 10  /* number over 7, a port over 15, or a port other than 0 without a ports octet */
 #define RDS_WRONG_LENGTH 11 /* a datagram outside 1 to 1,500 octets */
-#define RDS_MALFORMED 16    /* the frame is malformed */
+#define RDS_MALFORMED 16    /* the frame is malformed; rds_write: no frame reads as these words */
 
 /* Sizes, in elements. An accepted call writes just the first so many words. */
 #define RDS_FIELDS 100  /* words of a frame, at least */
@@ -46,7 +46,8 @@ extern "C" {
 #define RDS_MANAGE_PORT 10
 #define RDS_SET_PARAMETERS 11
 
-/* Words of a frame. Those that the frame hasn't are 0, and so are 23 and 99; starts count from the frame's first octet. */
+/* Words of a frame. Those that the frame hasn't are 0, and so are 23 and 99; starts count from the frame's first octet,
+ * in rds_write from the first of `bytes`. */
 enum {
     RDS_KIND = 0,
     RDS_ADS,
@@ -86,7 +87,7 @@ enum {
     RDS_PART_NUMBER /* N(S) of I, N(U) of UI, else 0 */
 };
 
-/* Words of the answer of rds_put; the others are 0. */
+/* Words of the answer of rds_put, and the first of them alone of rds_write; the others are 0. */
 enum {
     RDS_SENT = 0, /* the length of the frame */
     RDS_NEXT = 12 /* the number of the next frame */
@@ -101,6 +102,11 @@ uint64_t rds_take(const uint8_t *frame, size_t frame_count, uint64_t from_networ
 /* Puts a datagram into a UI frame at the start of the output, with a ports octet where `ports` is on. */
 uint64_t rds_put(const uint8_t *datagram, size_t datagram_count, uint64_t ports, uint64_t source, uint64_t destination,
                  uint64_t number, uint8_t *out, size_t out_count, uint64_t *answer, size_t answer_count);
+
+/* Writes the frame that RDS_FIELDS words say at the start of the output; its information and Application IDs are parts of
+ * `bytes`. What rds_read read is written from its words and its frame, with the spare bits cleared. */
+uint64_t rds_write(const uint64_t *fields, size_t fields_count, const uint8_t *bytes, size_t bytes_count,
+                   uint64_t from_network, uint8_t *out, size_t out_count, uint64_t *answer, size_t answer_count);
 
 #ifdef __cplusplus
 }

@@ -70,6 +70,18 @@ FRAMES = [
     *[('18', 'u', f, None) for f in ('700A', '700A0835' + A, '780A350135' + A, '700A0135' + A + '00', '700A0322', '700A03228000')],
 ]
 
+# "Back": what `rds_write` makes of what was read, where it differs
+BACK = {
+    '50AA': '40AA',
+    '184312': '084312',
+    '6FE751': '6CE751',
+    '7BF73501': '78073501',
+    '73AAF535' + A + 'FB': '700A0535' + A + '03',
+    '700A032380': '700A032280',
+    '700A1353' + A + '0180': '700A1353' + A + '0080',
+    '700A2735' + A + '0146' + B + 'F9': '700A2735' + A + '0146' + B + '01',
+}
+
 # section 6, `rds_put`: ports, source, destination, number; the datagram as it is written on the line and as octets; length and next number, or a refusal
 PUTS = [
     ((0, 0, 0, 7), '0E000502', '470E000502', 0),
@@ -108,7 +120,8 @@ def cases():
             if words is None:
                 yield line, ': refused 16: refused 16'
             else:
-                yield line, f': ok{shown(words)}: ok{shown(taken(words))}'
+                back = text_of(bytes.fromhex(BACK.get(octets, octets)))
+                yield line, f': ok{shown(words)}: ok{shown(taken(words))}: ok {back}'
     yield '# RDS.md, section 10, 19', ''
     for numbers, written, octets, last in PUTS:
         line = 'p ' + ' '.join(map(str, numbers)) + f' /{written}'

@@ -11,6 +11,7 @@ use Rattle.rds_reading.specs.Read.{frameOf, soundBody}
 use Rattle.rds_datagram.specs.declared.Putting.{Putting}
 use Rattle.rds_datagram.specs.declared.Putting.the-variants.{Length, Refused}
 use Rattle.rds_datagram.specs.Put.{putOf}
+use Rattle.rds_writing.specs.Write.{writeOf}
 use Rattle.rds_words.specs.Words.{wordsOf, partWords}
 
 -- section 6: "a flag is off with 0 and on with any other value"
@@ -61,3 +62,21 @@ putOutput t ports s d n out answer = pick (ltb (length answer) 16) out (putOf t 
 
 unfoldable pub putAnswer : List ℕ → ℕ → ℕ → ℕ → ℕ → List ℕ → List ℕ → List ℕ
 putAnswer t ports s d n out answer = pick (ltb (length answer) 16) answer (puttingWords (putOf t (isOn ports) s d n out .answer) n answer)
+
+-- section 6, `rds_write`: "Word 0 of its answer is the frame's length, the other 15 are 0"
+unfoldable pub writtenWords : ℕ → List ℕ
+writtenWords len = len ∷ 0 ∷ 0 ∷ 0 ∷ 0 ∷ 0 ∷ 0 ∷ 0 ∷ 0 ∷ 0 ∷ 0 ∷ 0 ∷ 0 ∷ 0 ∷ 0 ∷ 0 ∷ []
+
+abbrev pub writingWords : Putting → List ℕ → List ℕ
+writingWords (Length n) answer = put answer 0 (writtenWords n)
+writingWords (Refused r) answer = answer
+
+-- section 6: 1 for an answer of fewer than 16 words; else what writing the frame gives back
+unfoldable pub writeNumber : List ℕ → List ℕ → ℕ → List ℕ → List ℕ → ℕ
+writeNumber w s network out answer = pick (ltb (length answer) 16) (numberOf WrongSize) (puttingNumber (writeOf w s (isOn network) out .answer))
+
+unfoldable pub writeOutput : List ℕ → List ℕ → ℕ → List ℕ → List ℕ → List ℕ
+writeOutput w s network out answer = pick (ltb (length answer) 16) out (writeOf w s (isOn network) out .output)
+
+unfoldable pub writeAnswer : List ℕ → List ℕ → ℕ → List ℕ → List ℕ → List ℕ
+writeAnswer w s network out answer = pick (ltb (length answer) 16) answer (writingWords (writeOf w s (isOn network) out .answer) answer)

@@ -3,7 +3,7 @@ ghost use mathlib.Core.Path.{_≡_};
 ghost use Prim.Native.Nat.{_≤_};
 ghost use lib.ListN.{length};
 ghost use Rattle.base_lists.specs.Seq.{put};
-ghost use Rattle.rds.specs.Calls.{isOn, readNumber, fieldsAfter, partAfter, putWords, putNumber, putOutput, putAnswer};
+ghost use Rattle.rds.specs.Calls.{isOn, readNumber, fieldsAfter, partAfter, putWords, putNumber, putOutput, putAnswer, writtenWords, writeNumber, writeOutput, writeAnswer};
 use base_numbers::Refusal;
 use rds_datagram::Putting;
 
@@ -83,6 +83,39 @@ pub extern "C" fn rds_put(
     match rds_datagram::put(datagram, is_on(ports), source, destination, number, out) {
         Putting::Length(n) => {
             store_put(answer, n, number);
+            0
+        }
+        Putting::Refused(r) => base_numbers::number(r),
+    }
+}
+
+// The answer of rds_write: the frame's length.
+fn store_written(answer: &mut [u64], len: usize)
+    requires { ⌜ 16 ≤ length (now answer) ⌝ }
+    ensures { λ _. ⌜ now (answer .exit) ≡ put (now (answer .entry)) 0 (writtenWords len) ⌝ }
+{
+    let n = len as u64;
+    let words = [n, 0, 0, 0, 0, 0, 0, 0, 0, 0, 0, 0, 0, 0, 0, 0];
+    base_lists::store_words(answer, 0, &words);
+}
+
+// Writes the frame that 100 words say, its parts in the lent octets, at the start of the output.
+#[no_mangle]
+pub extern "C" fn rds_write(
+    fields: &[u64],
+    bytes: &[u8],
+    from_network: u64,
+    out: &mut [u8],
+    answer: &mut [u64],
+) -> u64
+    ensures { λ r. ⌜ (r ≡ writeNumber (now (fields .entry)) (now (bytes .entry)) «from_network» (now (out .entry)) (now (answer .entry))) × (now (out .exit) ≡ writeOutput (now (fields .entry)) (now (bytes .entry)) «from_network» (now (out .entry)) (now (answer .entry))) × (now (answer .exit) ≡ writeAnswer (now (fields .entry)) (now (bytes .entry)) «from_network» (now (out .entry)) (now (answer .entry))) ⌝ }
+{
+    if answer.len() < 16 {
+        return base_numbers::number(Refusal::WrongSize);
+    }
+    match rds_writing::write(fields, bytes, is_on(from_network), out) {
+        Putting::Length(n) => {
+            store_written(answer, n);
             0
         }
         Putting::Refused(r) => base_numbers::number(r),

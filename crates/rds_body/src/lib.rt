@@ -96,7 +96,7 @@ fn response_form(action: u8) -> Form
     }
 }
 
-fn form_of(action: u8, response: bool) -> Form
+pub fn form_of(action: u8, response: bool) -> Form
     ensures { λ r. ⌜ r ≡ formOf action response ⌝ }
 {
     if response {

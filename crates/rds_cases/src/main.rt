@@ -1,6 +1,6 @@
 // Runs the cases of its input, a line each, through the C interface of the Reliable Data Service, and prints what each gives:
-//   u OCTETS              read and take a frame of the UE
-//   n OCTETS              read and take a frame of the network
+//   u OCTETS              read and take a frame of the UE, and write what was read
+//   n OCTETS              the same of a frame of the network
 //   p P S D N /OCTETS     put a datagram: ports on or off, Source Port, Destination Port, number
 // Each line is printed before what it gives; any other line is printed alone.
 ghost use Prim.Native.Nat.{_≤_};
@@ -37,13 +37,25 @@ fn first(out: &[u8], n: u64) {
     }
 }
 
+// The frame that is written from its words.
+fn back(fields: &[u64], bytes: &[u8], from_network: u64) {
+    let mut out = [238u8; 1523];
+    let mut answer = [0u64; 16];
+    outcome(rds::rds_write(fields, bytes, from_network, &mut out, &mut answer));
+    first(&out, answer[0]);
+}
+
 fn frame_case(bytes: &[u8], from_network: u64) {
     let mut fields = [0u64; 100];
     let mut part = [0u64; 8];
-    outcome(rds::rds_read(bytes, from_network, &mut fields));
+    let refused = rds::rds_read(bytes, from_network, &mut fields);
+    outcome(refused);
     words(&fields);
     outcome(rds::rds_take(bytes, from_network, &mut part));
     words(&part);
+    if refused == 0 {
+        back(&fields, bytes, from_network);
+    }
 }
 
 fn put_case(line: &[u8], bytes: &[u8]) {

@@ -62,7 +62,7 @@ pub fn says_response(cr: bool, from_network: bool) -> bool
 }
 
 // The U frame with this M, where the table of M and direction has it.
-fn u_kind(m: u8, response: bool) -> Kind
+pub fn u_kind(m: u8, response: bool) -> Kind
     ensures { λ r. ⌜ r ≡ uKind m response ⌝ }
 {
     if response {

@@ -1,0 +1,4 @@
+pub mod Plain
+pub mod Walked
+pub mod Lists
+pub mod Accepted

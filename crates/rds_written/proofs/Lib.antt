@@ -1,0 +1,9 @@
+pub mod Narrow
+pub mod Headers
+pub mod Applications
+pub mod Walk
+pub mod Lists
+pub mod Forms
+pub mod Listed
+pub mod Bodies
+pub mod Written
