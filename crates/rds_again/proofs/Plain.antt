@@ -10,7 +10,7 @@ use lib.Dec.{ltb, eqb}
 use borrow.Author.Tests.{eqb-false, ltb-true, ltb-false, le-leb, le-ltb, eq-eqb, ne-eqb}
 use Rattle.base_lists.specs.Seq.{pick, bit, part, tab}
 use Rattle.base_lists.proofs.StoresAndParts.{true-false}
-use Rattle.rds_lists.proofs.Laws.{rest}
+use Rattle.rds_lists.proofs.ListFacts.{rest}
 use Rattle.rds_frame.specs.declared.Kind.{Kind}
 use Rattle.rds_frame.specs.declared.Kind.the-variants as K
 use Rattle.rds_entries.specs.Entries.{applicationLength}

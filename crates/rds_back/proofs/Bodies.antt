@@ -10,7 +10,7 @@ use lib.Dec.{ltb, eqb}
 use borrow.Author.Tests.{eqb-true, ltb-true, ltb-false}
 use Rattle.base_lists.specs.Seq.{pick, part}
 use Rattle.base_lists.proofs.StoresAndParts.{true-false}
-use Rattle.rds_lists.proofs.Laws.{rest}
+use Rattle.rds_lists.proofs.ListFacts.{rest}
 use Rattle.rds_entries.specs.declared.Entry.{Entry}
 use Rattle.rds_entries.specs.Entries.{applicationLength}
 use Rattle.rds_body.specs.declared.Body.{Body}

@@ -15,7 +15,7 @@ use Rattle.rds_frame.specs.declared.Head.{Head}
 use Rattle.rds_entries.specs.declared.Entry.{Entry}
 use Rattle.rds_entries.specs.Entries.{noEntry}
 use Rattle.rds_size.specs.Size.{isApplication, entrySize, entriesSize}
-use Rattle.rds_size.proofs.Laws.{application}
+use Rattle.rds_size.proofs.SizeTests.{application}
 use Rattle.rds_pieces.specs.Octets.{portsOctet, kindOctets, kindLength}
 use Rattle.rds_encoding.specs.Encoding.{headOctets, entryOctets, entriesOctets}
 

@@ -1,3 +1,3 @@
-pub mod Laws
+pub mod WalkSteps
 pub mod Inside
 pub mod Walked

@@ -9,7 +9,7 @@ use lib.Dec.{ltb, eqb}
 use Rattle.base_lists.specs.Seq.{pick, bit, part}
 use Rattle.rds_parameters.specs.Parameters.{itemsFrom}
 use Rattle.rds_size.specs.Size.{inside, isApplication, informationSize, askingSize}
-use Rattle.rds_size.proofs.Laws.{inside-ends, application}
+use Rattle.rds_size.proofs.SizeTests.{inside-ends, application}
 
 module _ (s : List ℕ) where
   pub information-fits : (start len : ℕ) (items : Bool) → informationSize s start len items ≤ 1520

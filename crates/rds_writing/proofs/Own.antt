@@ -12,7 +12,7 @@ use Rattle.rds_body.specs.declared.Body.{Body}
 use Rattle.rds_body.specs.declared.Body.the-variants as B
 use Rattle.rds_reading.specs.declared.Frame.{Frame}
 use Rattle.rds_words.specs.Words.{kindWords, headWords, bodyWords, entriesWords, listWords, wordsOf}
-use Rattle.rds_words.proofs.Laws.{length-entries-words}
+use Rattle.rds_words.proofs.EntryWords.{length-entries-words}
 
 length-kind-words : (k : Kind) (a s d : ℕ) → length (kindWords k a s d) ≡ 11
 unfolding kindWords

@@ -22,7 +22,7 @@ use Rattle.rds_body.specs.declared.Managed.{Managed}
 use Rattle.rds_body.specs.Body.{formOf, noList, managedOf}
 use Rattle.rds_reading.specs.Read.{emptyOf, itemsOf, manageOf, uBody, bodyBy, soundBody}
 use Rattle.rds_size.specs.Size.{inside, isApplication, informationSize, askingSize, entriesSize, listSize, bodySize}
-use Rattle.rds_size.proofs.Laws.{Application, application}
+use Rattle.rds_size.proofs.SizeTests.{Application, application}
 use Rattle.rds_size.proofs.Fits.{information-fits}
 use Rattle.rds_pieces.specs.Octets.{fixedOf, askingPieces, answerPieces, queryPieces, listPieces, piecesOf}
 use Rattle.rds_encoding.specs.Encoding.{entriesOctets, piecesOctets}

@@ -16,7 +16,7 @@ use Rattle.rds_body.specs.declared.Body.the-variants as B
 use Rattle.rds_body.specs.declared.Form.{Form}
 use Rattle.rds_body.specs.declared.Form.the-variants as F
 use Rattle.rds_body.specs.Body.{formOf, bitmapOf, optionalOf, askingOf, answerOf, queryOf, noList, managedBy, managedOf}
-use Rattle.rds_size.proofs.Laws.{Application}
+use Rattle.rds_size.proofs.SizeTests.{Application}
 use Rattle.rds_pieces.specs.Octets.{portsOctet, bitmapOctets, fixedOf, askingPieces, answerPieces, queryPieces}
 use Rattle.rds_encoding.specs.Encoding.{entriesOctets, piecesOctets}
 use Rattle.rds_written.proofs.Applications.{application-before}

@@ -17,7 +17,7 @@ use Rattle.rds_body.specs.declared.Body.the-variants as B
 use Rattle.rds_body.specs.declared.Form.the-variants as F
 use Rattle.rds_body.specs.Body.{formOf, optionalOf, listBy, listAfter, listOf, managedOf}
 use Rattle.rds_size.specs.Size.{isApplication, entrySize, entriesSize}
-use Rattle.rds_size.proofs.Laws.{Application, application}
+use Rattle.rds_size.proofs.SizeTests.{Application, application}
 use Rattle.rds_pieces.specs.Octets.{bitmapOctets, listPieces}
 use Rattle.rds_encoding.specs.Encoding.{entriesOctets, piecesOctets}
 use Rattle.rds_encoding.proofs.Lengths.{next-size}

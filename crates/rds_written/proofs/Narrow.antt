@@ -8,7 +8,7 @@ use Rattle.rds_frame.specs.declared.Kind.the-variants as K
 use Rattle.rds_frame.specs.declared.Head.{Head}
 use Rattle.rds_frame.specs.Frame.{uKind}
 use Rattle.rds_entries.specs.declared.Entry.{Entry}
-use Rattle.rds_size.proofs.Laws.{Application}
+use Rattle.rds_size.proofs.SizeTests.{Application}
 
 -- each number of a kind is as narrow as its place, and a U frame is one that the table of M and direction has
 unfoldable pub NarrowKind : Kind → Type 0

@@ -1,5 +1,5 @@
 -- `rds_body::list_after` meets its contract: what led to each return picks the case of its definition. Assumes nothing.
-use Rattle.rds_lists.proofs.Laws.{rest}
+use Rattle.rds_lists.proofs.ListFacts.{rest}
 use borrow.Author.Needs.{needs}
 use Rattle.rds_body.proofs.list_after.Statement.{statement}
 use Rattle.rds_body.proofs.list_after.Tie as tie

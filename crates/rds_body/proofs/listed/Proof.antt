@@ -1,7 +1,7 @@
 -- `rds_body::listed` meets its contract: the entries end within the information field. Assumes nothing.
 use native.Mathlib.Omega.{arith}
 use lib.ListN.{length-drop}
-use Rattle.rds_lists.proofs.Laws.{rest}
+use Rattle.rds_lists.proofs.ListFacts.{rest}
 use Rattle.rds_entries.proofs.Walked.{walk-ends}
 use Rattle.rds_body.specs.Body.{listOf}
 use borrow.Author.Needs.{needs}

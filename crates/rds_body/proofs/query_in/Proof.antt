@@ -1,5 +1,5 @@
 -- `rds_body::query_in` meets its contract: what led to each return picks the case of its definition. Assumes nothing.
-use Rattle.rds_lists.proofs.Laws.{rest}
+use Rattle.rds_lists.proofs.ListFacts.{rest}
 use Rattle.rds_body.specs.Body.{queryOf}
 use borrow.Author.Needs.{needs}
 use Rattle.rds_body.proofs.query_in.Statement.{statement}

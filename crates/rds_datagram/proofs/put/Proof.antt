@@ -6,7 +6,7 @@ use denote.Ref.{now}
 use borrow.Author.Needs.{needs}
 use Rattle.base_lists.proofs.StoresAndParts.{length-put}
 use Rattle.rds_datagram.specs.Put.{putOf, putBy, headOctets, done}
-use Rattle.rds_datagram.proofs.Laws.{roomy, head-length, two-stores}
+use Rattle.rds_datagram.proofs.Room.{roomy, head-length, two-stores}
 use Rattle.rds_datagram.proofs.put.Statement.{statement}
 use Rattle.rds_datagram.proofs.put.Tie as tie
 

@@ -3,8 +3,8 @@ use Rattle.rds_entries.proofs.Inside.{entry-inside}
 use native.Mathlib.Omega.{arith}
 use lib.ListN.{length-drop}
 use mathlib.Core.Path.{sym, _∙_}
-use Rattle.rds_lists.proofs.Laws.{rest}
-use Rattle.rds_entries.proofs.Laws.{walk-none, walk-more}
+use Rattle.rds_lists.proofs.ListFacts.{rest}
+use Rattle.rds_entries.proofs.WalkSteps.{walk-none, walk-more}
 use borrow.Author.Needs.{needs}
 use Prim.Native.Nat.{ℕ, _<_}
 use borrow.Fn.Kinds.{In}

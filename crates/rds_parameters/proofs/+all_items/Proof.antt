@@ -1,8 +1,8 @@
 -- `rds_parameters::all_items` meets its contract: the number still to come falls at each call. Assumes nothing.
 use mathlib.Core.Path.{sym}
 use borrow.Author.Tests.{eq-eqb, ne-eqb}
-use Rattle.rds_lists.proofs.Laws.{rest}
-use Rattle.rds_parameters.proofs.Laws.{items-none, items-more, items-empty}
+use Rattle.rds_lists.proofs.ListFacts.{rest}
+use Rattle.rds_parameters.proofs.WalkSteps.{items-none, items-more, items-empty}
 use borrow.Author.Needs.{needs}
 use Prim.Native.Nat.{ℕ, _<_}
 use borrow.Fn.Kinds.{In}

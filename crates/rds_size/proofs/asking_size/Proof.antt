@@ -1,7 +1,7 @@
 -- `rds_size::asking_size` meets its contract: what led to each return picks the case of its definition. Assumes nothing.
 use native.Mathlib.Omega.{arith}
 use mathlib.Core.Path.{sym, _∙_}
-use Rattle.rds_size.proofs.Laws.{application}
+use Rattle.rds_size.proofs.SizeTests.{application}
 use borrow.Author.Tests.{eq-eqb, ne-eqb}
 use Rattle.rds_size.specs.Size.{askingSize}
 use borrow.Author.Needs.{needs}

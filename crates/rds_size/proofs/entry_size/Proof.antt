@@ -1,7 +1,7 @@
 -- `rds_size::entry_size` meets its contract: what led to each return picks the case of its definition. Assumes nothing.
 use native.Mathlib.Omega.{arith}
 use mathlib.Core.Path.{sym, _∙_}
-use Rattle.rds_size.proofs.Laws.{application}
+use Rattle.rds_size.proofs.SizeTests.{application}
 use Rattle.rds_size.specs.Size.{entrySize}
 use borrow.Author.Needs.{needs}
 use Rattle.rds_size.proofs.entry_size.Statement.{statement}

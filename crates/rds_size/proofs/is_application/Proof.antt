@@ -2,7 +2,7 @@
 use native.Mathlib.Omega.{arith}
 use native.Mathlib.Nat.{add-sub-cancel-left}
 use mathlib.Core.Path.{sym, _∙_}
-use Rattle.rds_size.proofs.Laws.{inside-ends}
+use Rattle.rds_size.proofs.SizeTests.{inside-ends}
 use borrow.Author.Tests.{eq-eqb, le-leb, le-ltb, lt-leb, lt-ltb, ne-eqb}
 use Rattle.rds_size.specs.Size.{isApplication}
 use borrow.Author.Needs.{needs}

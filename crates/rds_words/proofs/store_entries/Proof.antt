@@ -12,7 +12,7 @@ use Rattle.base_lists.specs.Seq.{put}
 use Rattle.base_lists.proofs.StoresAndParts.{put-nil, length-put}
 use Rattle.rds_entries.specs.Entries.{noEntry}
 use Rattle.rds_words.specs.Words.{entryWords, entriesWords}
-use Rattle.rds_words.proofs.Laws.{one-more}
+use Rattle.rds_words.proofs.EntryWords.{one-more}
 use Rattle.rds_words.proofs.store_entries.Statement.{statement}
 use Rattle.rds_words.proofs.store_entries.Tie as tie
 

@@ -5,7 +5,7 @@ use lib.ListN.{length}
 use denote.Ref.{now}
 use borrow.Author.Needs.{needs}
 use Rattle.rds_words.specs.Words.{wordsOf}
-use Rattle.rds_words.proofs.Laws.{three-stores}
+use Rattle.rds_words.proofs.EntryWords.{three-stores}
 use Rattle.rds_words.proofs.store_fields.Statement.{statement}
 use Rattle.rds_words.proofs.store_fields.Tie as tie
 

@@ -3,7 +3,7 @@ use native.Mathlib.Omega.{arith}
 use mathlib.Core.Path.{_∙_}
 use denote.Ref.{now}
 use borrow.Author.Needs.{needs}
-use Rattle.rds_words.proofs.Laws.{last-word}
+use Rattle.rds_words.proofs.EntryWords.{last-word}
 use Rattle.rds_words.proofs.store_list.Statement.{statement}
 use Rattle.rds_words.proofs.store_list.Tie as tie
 
