@@ -25,7 +25,8 @@ use Rattle.rds_words.specs.Words.{kindWords, bodyWords, entryWords, entriesWord
 use Rattle.rds_size.specs.Size.{entrySize, entriesSize, listSize, bodySize}
 use Rattle.rds_said.specs.Said.{word, formatSaid, manageSaid, uSaid, bodySaid, entrySaid, listSaid, entriesSaid}
 use Rattle.rds_writing.specs.Write.{isItems}
-use Rattle.rds_again.proofs.Plain.{Kept, ports-again, bit-said}
+use Rattle.rds_written.proofs.Headers.{bit-said}
+use Rattle.rds_again.proofs.Plain.{Kept, ports-again}
 use Rattle.rds_again.proofs.Walked.{Good, Found, walk-found}
 
 -- the word j of the entry k

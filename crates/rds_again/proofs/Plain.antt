@@ -25,6 +25,7 @@ use Rattle.rds_reading.specs.Read.{soundBody}
 use Rattle.rds_words.specs.Words.{kindWords, bodyWords, listWords}
 use Rattle.rds_size.specs.Size.{inside, isApplication, informationSize, askingSize, bodySize}
 use Rattle.rds_said.specs.Said.{formatSaid, portsSaid, askingSaid, manageSaid, uSaid, bodySaid, entrySaid, listSaid, entriesSaid}
+use Rattle.rds_written.proofs.Headers.{bit-said}
 use Rattle.rds_writing.specs.Write.{isItems}
 
 -- the words of a kind, a body and its entries
@@ -110,10 +111,6 @@ pub ports-again : (some : Bool) (x y : ℕ) → x ≡ y * 2 → x < 65536 → (s
 unfolding portsSaid
 ports-again true x y h l none = omega (arith, h, l)
 ports-again false x y h l none = sym (none refl)
-
-pub bit-said : (b : Bool) → eqb (bit b) 1 ≡ b
-bit-said true = refl
-bit-said false = refl
 
 module _ (s : List ℕ) (octet : (i : ℕ) → getD s i 0 < 256) (at : ℕ) (e p d : ℕ) (response : Bool) where
   -- MANAGE_PORT, without ports in the header

@@ -15,6 +15,7 @@ use Rattle.rds_entries.specs.declared.Entries.{Entries}
 use Rattle.rds_entries.specs.declared.Got.{Got}
 use Rattle.rds_entries.specs.declared.Got.the-variants.{One, Cut}
 use Rattle.rds_entries.specs.Entries.{noEntry, applicationLength, entryOf, entryAt, afterEntry, walkFrom}
+use Rattle.rds_entries.proofs.Inside.{cut-one, same-size}
 use Rattle.rds_size.specs.Size.{isApplication, entrySize}
 use Rattle.rds_again.proofs.Plain.{application-here}
 
@@ -25,14 +26,8 @@ pub record Good (s : List ℕ) (f : Bool) (e : Entry) : Type 0 where
   pub format-narrow : e .format < 8
   pub no-format : f ≡ false → e .format ≡ 0
 
-cut-one {ℓ} : {A : Type ℓ} (e : Entry) (n : ℕ) → Cut ≡ One e n → A
-cut-one e n p = let z : _≡_ {A = ℕ} 0 1 = cc in absurd (omega arith)
-
-same-entry : (a b : Entry) (m n : ℕ) → One a m ≡ One b n → a ≡ b
+pub same-entry : (a b : Entry) (m n : ℕ) → One a m ≡ One b n → a ≡ b
 same-entry a b m n p = cc
-
-same-size : (a b : Entry) (m n : ℕ) → One a m ≡ One b n → m ≡ n
-same-size a b m n p = cc
 
 -- one entry, and its size
 record Got-one (s : List ℕ) (f : Bool) (e : Entry) (z : ℕ) : Type 0 where
@@ -59,7 +54,7 @@ module _ (s : List ℕ) (octet : (i : ℕ) → getD s i 0 < 256) (f : Bool) wher
 
     made : (g : Bool) (format : ℕ) (size : ℕ) → f ≡ g → format < 8 → (g ≡ false → format ≡ 0) → pick g (1 + len + 1) (1 + len) ≡ size → eqb len 0 ≡ false → One (entryOf x at len format) size ≡ One e z → Got-one s f e z
     made g format size fg low none m q p =
-        rw (← same-entry _ _ _ _ p, ← same-size _ _ _ _ p) (record {
+        rw (← same-entry _ _ _ _ p, same-size _ _ _ _ p) (record {
           good = record { source-narrow = omega (arith, octet-x 0); destination-narrow = omega arith; format-narrow = low; no-format = λ h. none (sym fg ∙ h) };
           size = entry-sized s f g (entryOf x at len format) fg (app q) ∙ m;
         })

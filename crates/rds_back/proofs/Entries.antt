@@ -14,20 +14,12 @@ use Rattle.rds_entries.specs.declared.Entry.{Entry}
 use Rattle.rds_entries.specs.declared.Got.{Got}
 use Rattle.rds_entries.specs.declared.Got.the-variants.{One, Cut}
 use Rattle.rds_entries.specs.Entries.{noEntry, applicationLength, entryOf, entryAt, afterEntry, walkFrom}
+use Rattle.rds_entries.proofs.Inside.{cut-one, same-size}
 use Rattle.rds_entries.proofs.Walked.{walk-inside}
 use Rattle.rds_pieces.specs.Octets.{portsOctet}
 use Rattle.rds_encoding.specs.Encoding.{entryOctets, entriesOctets}
 use Rattle.rds_back.specs.Spare.{clearedPorts, applicationAfter, clearedEntries}
-use Rattle.rds_again.proofs.Walked.{walk-found}
-
-cut-one {ℓ} : {A : Type ℓ} (e : Entry) (n : ℕ) → Cut ≡ One e n → A
-cut-one e n p = let z : _≡_ {A = ℕ} 0 1 = cc in absurd (omega arith)
-
-same-entry : (a b : Entry) (m n : ℕ) → One a m ≡ One b n → a ≡ b
-same-entry a b m n p = cc
-
-same-size : (a b : Entry) (m n : ℕ) → One a m ≡ One b n → m ≡ n
-same-size a b m n p = cc
+use Rattle.rds_again.proofs.Walked.{same-entry, walk-found}
 
 module _ (s : List ℕ) (octet : (i : ℕ) → getD s i 0 < 256) where
   module _ (x : List ℕ) (at : ℕ) (here : x ≡ drop at s) (some : 1 ≤ length x) where
@@ -80,8 +72,8 @@ module _ (s : List ℕ) (octet : (i : ℕ) → getD s i 0 < 256) where
     go true q bl g fg b p = cut-one e z p
     go false q true g fg b p = cut-one e z p
     go false q false true fg true p = cut-one e z p
-    go false q false true fg false p = rw (fg, ← same-entry _ _ _ _ p, ← same-size _ _ _ _ p) (with-format x at here (positive (length x) (eqb-false (length x) 0 q)) n)
-    go false q false false fg b p = rw (fg, ← same-entry _ _ _ _ p, ← same-size _ _ _ _ p) (without-format x at here (positive (length x) (eqb-false (length x) 0 q)) n)
+    go false q false true fg false p = rw (fg, ← same-entry _ _ _ _ p, same-size _ _ _ _ p) (with-format x at here (positive (length x) (eqb-false (length x) 0 q)) n)
+    go false q false false fg b p = rw (fg, ← same-entry _ _ _ _ p, same-size _ _ _ _ p) (without-format x at here (positive (length x) (eqb-false (length x) 0 q)) n)
 
   -- all that a walk found, and what follows
   pub walk-cleared : (f : Bool) (n k at : ℕ) (x : List ℕ) (read : List Entry) → x ≡ drop at s → k + n ≤ length read → walkFrom n k f at x read .whole ≡ true

@@ -13,11 +13,7 @@ use Rattle.rds_words.specs.Words.{kindWords}
 use Rattle.rds_said.specs.Said.{word, kindSaid, headSaid}
 use Rattle.rds_said.proofs.ByKind.{said-i, said-s, said-ui, said-u}
 use Rattle.rds_written.proofs.Narrow.{NarrowKind, NarrowHead}
-use Rattle.rds_written.proofs.Headers.{head}
-
-bit-said : (b : Bool) → eqb (bit b) 1 ≡ b
-bit-said true = refl
-bit-said false = refl
+use Rattle.rds_written.proofs.Headers.{bit-said, head}
 
 three : (x : ℕ) → x < 8 → x % 8 ≡ x
 three x h = omega (arith, h)

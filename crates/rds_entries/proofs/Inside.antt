@@ -15,7 +15,7 @@ use Rattle.rds_entries.specs.Entries.{applicationLength, entryOf, entryW
 pub cut-one {ℓ} : {A : Type ℓ} (e : Entry) (n : ℕ) → Cut ≡ One e n → A
 cut-one e n p = let z : _≡_ {A = ℕ} 0 1 = cc in absurd (omega arith)
 
-same-size : (a b : Entry) (m n : ℕ) → One a m ≡ One b n → n ≡ m
+pub same-size : (a b : Entry) (m n : ℕ) → One a m ≡ One b n → n ≡ m
 same-size a b m n p = cc
 
 pub application-inside : (s : List ℕ) → applicationLength s ≤ length s

@@ -31,7 +31,7 @@ use Rattle.rds_writing.specs.Write.{isItems}
 use Rattle.rds_written.specs.Trips.{unplacedBody, unplacedEntry, bodyPart, entryPart}
 use Rattle.rds_written.proofs.Lists.{told, told-alike, told-parts}
 use Rattle.rds_written.proofs.Forms.{asking-again, answer-again, query-again}
-use Rattle.rds_written.proofs.Listed.{all-narrow, list-again}
+use Rattle.rds_written.proofs.Listed.{format-narrow, no-format, all-narrow, list-again}
 
 -- what a body read in f has of the body b and the entries l, whose parts lie in s
 pub record Back (f : List ℕ) (m : Managed) (s : List ℕ) (b : Body) (l : List Entry) : Type 0 where
@@ -70,16 +70,7 @@ unfolding listSize
 list-held s list a true n h = omega (arith, h)
 list-held s list a false n h = omega (arith, h)
 
--- formats and bitmaps that words say
-format-narrow : (x : ℕ) (b : Bool) → formatSaid x b < 8
-unfolding formatSaid
-format-narrow x true = omega arith
-format-narrow x false = omega arith
-
-no-format : (x : ℕ) (b : Bool) → b ≡ false → formatSaid x b ≡ 0
-unfolding formatSaid
-no-format x b e = rw e refl
-
+-- bitmaps that words say
 ports-even : (x : ℕ) (b : Bool) → portsSaid x b ≡ portsSaid x b / 2 * 2
 unfolding portsSaid
 ports-even x true = even (x % 65536 / 2) where

@@ -17,13 +17,14 @@ use Rattle.rds_pieces.specs.Octets.{portsOctet, kindOctets, kindLength}
 use Rattle.rds_encoding.specs.Encoding.{headOctets}
 use Rattle.rds_written.proofs.Narrow.{NarrowKind, NarrowHead}
 
-bit-flag : (b : Bool) → eqb (bit b) 1 ≡ b
-bit-flag true = refl
-bit-flag false = refl
+-- a flag that was told as a bit
+pub bit-said : (b : Bool) → eqb (bit b) 1 ≡ b
+bit-said true = refl
+bit-said false = refl
 
 -- the bit of weight w is that of b
 flag-is : (w x : ℕ) (b : Bool) → x / w % 2 ≡ bit b → flag w x ≡ b
-flag-is w x b e = ap (λ (y : ℕ). eqb y 1) e ∙ bit-flag b
+flag-is w x b e = ap (λ (y : ℕ). eqb y 1) e ∙ bit-said b
 
 pub responds-twice : (r n : Bool) → responds (responds r n) n ≡ r
 unfolding responds

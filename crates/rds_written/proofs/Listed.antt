@@ -35,12 +35,13 @@ held s f e = go (isApplication s (e .start) (e .len)) refl where
   go true p h = application s (e .start) (e .len) p
   go false p h = absurd (omega (arith, h))
 
-format-narrow : (x : ℕ) (f : Bool) → formatSaid x f < 8
+-- formats that words say
+pub format-narrow : (x : ℕ) (f : Bool) → formatSaid x f < 8
 unfolding formatSaid
 format-narrow x true = omega arith
 format-narrow x false = omega arith
 
-no-format : (x : ℕ) (f : Bool) → f ≡ false → formatSaid x f ≡ 0
+pub no-format : (x : ℕ) (f : Bool) → f ≡ false → formatSaid x f ≡ 0
 unfolding formatSaid
 no-format x f e = rw e refl
 
