@@ -2,8 +2,9 @@
  *
  * A slice is a pointer and then a count of its elements. A pointer is never null, also where the count is 0, and the
  * buffers lent to one call don't overlap. That is all a caller owes: every value is otherwise allowed.
- * The result is 0 where the call was accepted, 1 to 16 a refusal with its number of document 01, and 101 to 107 for
- * D1 to D7 of a malformed PDU. A call that was not accepted changes no lent byte and no lent word.
+ * The result is 0 where the call was accepted, 1 to 11 a refusal with its number of document 01 (higher ones are kept
+ * for document 02), and 101 to 107 for D1 to D7 of a malformed PDU. A call that was not accepted changes no lent byte
+ * and no lent word.
  */
 #ifndef WTP_H
 #define WTP_H

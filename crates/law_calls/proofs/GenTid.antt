@@ -1,4 +1,4 @@
--- GenTID: an accepted request counts it by one, and no other call changes it. Assumes nothing.
+-- No call but a request changes GenTID. Assumes nothing.
 use Prim.Native.Nat.{ℕ, _+_, _*_, _≤_}
 use native.Mathlib.Omega.{arith}
 use mathlib.Core.Path.{_≡_, refl, sym, ap, _∙_}

@@ -1,1 +1,1 @@
-// Demand 3: what no sequence of calls can break: laws alone.
+// Demand 3: what no sequence of calls can break: definitions alone.
