@@ -49,14 +49,14 @@ Concerns (Call.Receive time peer) l place = Addressed (l .given) peer (recordAt 
 Concerns (Call.Timer time) l place = dueOf (l .table) (count (l .table)) time ≡ Found.At place
 
 -- a primitive that its state allows (01: "a primitive without [a row] gets 9")
-abbrev pub Allowed : Lent → ℕ → Event → Type 0
-Allowed l place event = rowAt (l .table) place event ≡ Row.NotAllowed → ⊥
+abbrev pub StateAllows : Lent → ℕ → Event → Type 0
+StateAllows l place event = rowAt (l .table) place event ≡ Row.NotAllowed → ⊥
 
 -- what comes to that record: the user's primitive, the PDU, the timer
 abbrev pub Comes : Call → Lent → ℕ → Event → Given → Type 0
 Comes (Call.Request time peer class userAck) l place event given = ⊥
-Comes (Call.Answer time role peer tid) l place event given = (event ≡ Event.UserAnswer) × Allowed l place event
-Comes (Call.Result time role peer tid) l place event given = (event ≡ Event.UserResult) × Allowed l place event
-Comes (Call.Abort time role peer tid reason) l place event given = (event ≡ Event.UserAbort) × (Allowed l place event × (given .reason ≡ reason))
+Comes (Call.Answer time role peer tid) l place event given = (event ≡ Event.UserAnswer) × StateAllows l place event
+Comes (Call.Result time role peer tid) l place event given = (event ≡ Event.UserResult) × StateAllows l place event
+Comes (Call.Abort time role peer tid reason) l place event given = (event ≡ Event.UserAbort) × (StateAllows l place event × (given .reason ≡ reason))
 Comes (Call.Receive time peer) l place event given = event ≡ eventOf (pduOf (l .given) .kind)
 Comes (Call.Timer time) l place event given = event ≡ Event.Timer

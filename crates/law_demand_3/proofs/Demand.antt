@@ -11,7 +11,7 @@ use Rattle.step_shown.specs.Parts.{dataOf}
 use Rattle.step_shown.specs.declared.Place.{Place}
 use Rattle.step_shown.specs.declared.Shown.the-variants as Shown
 use Rattle.law_history.specs.Trace.{Entry, Promise, Run}
-use Rattle.law_history.specs.Changed.{Framed}
+use Rattle.law_history.specs.Changed.{CallFramed}
 use Rattle.law_history.specs.Demand.{Shows, userData, OwnAborts, Demand3}
 use Rattle.law_one_turn.proofs.Moves.{moves}
 use Rattle.law_data_shown.specs.Cells.{CellsHold}
@@ -36,7 +36,7 @@ demand-3-from max inv cells run =
       results = results-exact run;
       invokes = invokes-exact run cells;
       invokes-0 = invokes-0-exact run cells;
-      framed = throughout Framed (λ e h p. call-framed e p h) run;
+      framed = throughout CallFramed (λ e h p. call-framed e p h) run;
     }
 
 -- from a table made fresh, with RCR_MAX its first setting

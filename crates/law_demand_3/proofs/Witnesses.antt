@@ -1,4 +1,4 @@
--- No entry of a history for which demand 3 holds is like one of the six that break its letter. Assumes nothing.
+-- No entry of a history for which demand 3 holds is like one of the seven that break its letter. Assumes nothing.
 use Prim.Native.Nat.{ℕ, _+_, _*_, _≤_, _<_}
 use native.Mathlib.Omega.{arith}
 use mathlib.Core.Path.{_≡_, refl, sym, ap, subst, _∙_}
@@ -23,10 +23,10 @@ use Rattle.law_counting.specs.Counting.{Counts, none, plus, requested, aborted}
 use Rattle.law_history.specs.Trace.{Entry, Throughout}
 use Rattle.law_history.specs.Tally.{Name, isNamed, ofShown, ofAnswer, sentOf, peerOf, ofSent, adds}
 use Rattle.law_history.specs.Moves.{before, after}
-use Rattle.law_history.specs.Changed.{OutsideRecord, NamedOrFired, ByRequest, ByInvoke, OpenedAt, NoneChanged, OneChanged, Framed}
+use Rattle.law_history.specs.Changed.{OutsideRecord, NamedOrFired, ByRequest, ByInvoke, OpenedAt, NoneChanged, OneChanged, CallFramed}
 use Rattle.law_history.specs.Demand.{ShownIn, Shows, ResultExact, Invoke0Exact, AbortAlone, OwnAborts, Demand3}
 use Rattle.law_one_turn.proofs.Names.{name, named-self}
-use Rattle.law_demand_3.specs.Witnesses.{Touched, TwoRecords, WrongRecord, AbortAndConfirm, OthersResult, AbortUnsent, InvokeByTimer, Unlike}
+use Rattle.law_demand_3.specs.Witnesses.{Touched, TwoRecords, WrongRecord, AbortAndConfirm, OthersResult, AbortUnsent, InvokeByTimer, RefusedChange, Unlike}
 
 -- an octet of a record lies outside every other
 elsewhere : (place other k : ℕ) → (place ≡ other → ⊥) → base place ≤ k → k < base place + recordSize → OutsideRecord other k
@@ -48,14 +48,14 @@ module _ (e : Entry) (h : List Entry) where
   none-touched : (place : ℕ) → NoneChanged e → Touched e place → ⊥
   none-touched place n t = t .changed (n .records (t .octet) (omega (arith, t .from)))
 
-  pub no-two-records : Framed e h → TwoRecords e → ⊥
+  pub no-two-records : CallFramed e h → TwoRecords e → ⊥
   no-two-records f w = go (f .records)
     where
       go : NoneChanged e ⊎ ((place : ℕ) × OneChanged e place) → ⊥
       go (inl n) = none-touched (w .one) n (w .first)
       go (inr (place, o)) = w .apart (is-the-one (w .one) place o (w .first) ∙ sym (is-the-one (w .other) place o (w .second)))
 
-  pub no-wrong-record : Framed e h → WrongRecord e → ⊥
+  pub no-wrong-record : CallFramed e h → WrongRecord e → ⊥
   no-wrong-record f w = go (f .records)
     where
       opened : (place : ℕ) → ByRequest e (recordAt (after e) place) ⊎ ByInvoke e (recordAt (after e) place) → ⊥
@@ -105,12 +105,15 @@ module _ (e : Entry) (h : List Entry) where
       let i = invokes (w .peer) (w .tid) (w .up) (w .place) (w .invoke) in
       true-false (sym (ap fires (w .call-is)) ∙ ap fires (i .received))
 
+  pub no-refused-change : CallFramed e h → RefusedChange e → ⊥
+  no-refused-change f w = w .changed (ap (λ (t : List ℕ). getD t (w .octet) 0) (f .refused (w .refused) .0))
+
 -- throughout a history
 pub no-witness : (max : ℕ) (t : List ℕ) (h : List Entry) → Demand3 max t h → Throughout Unlike h
 unfolding Throughout
 no-witness max t h d = go h (d .framed) (d .alone) (d .results) (d .own-aborts) (d .invokes-0)
   where
-    go : (h : List Entry) → Throughout Framed h → Throughout AbortAlone h → Throughout ResultExact h → Throughout OwnAborts h → Throughout Invoke0Exact h → Throughout Unlike h
+    go : (h : List Entry) → Throughout CallFramed h → Throughout AbortAlone h → Throughout ResultExact h → Throughout OwnAborts h → Throughout Invoke0Exact h → Throughout Unlike h
     go [] f a r o i = tt
     go (e ∷ h) f a r o i = (
       record {
@@ -120,6 +123,7 @@ no-witness max t h d = go h (d .framed) (d .alone) (d .results) (d .own-aborts) 
         w4 = no-others-result e h (r .0);
         w5 = no-abort-unsent e h (o .0);
         w6 = no-invoke-by-timer e h (i .0);
+        w7 = no-refused-change e h (f .0);
       },
       go h (f .1) (a .1) (r .1) (o .1) (i .1),
     )

@@ -1,7 +1,7 @@
--- Six entries that each break a sentence of the letter, as an audit wrote them down. No history has one.
+-- Seven entries that each break a sentence of the letter: six as an audit wrote them down, and a refusal that changes something. No history has one.
 use Prim.Native.Nat.{ℕ, _+_, _≤_, _<_}
 use mathlib.Core.Path.{_≡_}
-use mathlib.Core.Bool.{Bool, true}
+use mathlib.Core.Bool.{Bool, true, false}
 use mathlib.Core.List.{List, []}
 use lib.ListN.{getD}
 use Rattle.base_layout.specs.Layout.{recordSize, base}
@@ -14,9 +14,9 @@ use Rattle.step_shown.specs.declared.Shown.the-variants as Shown
 use Rattle.call_plans.specs.Calls.{Call}
 use Rattle.call_plans.specs.Concerns.{NamedBy}
 use Rattle.law_history.specs.Trace.{Entry}
-use Rattle.law_history.specs.Tally.{sentOf}
+use Rattle.law_history.specs.Tally.{sentOf, accepted}
 use Rattle.law_history.specs.Moves.{before, after}
-use Rattle.law_history.specs.Demand.{Shows, accepted}
+use Rattle.law_history.specs.Demand.{Shows}
 
 -- an octet of the record at a place changes, its exit information among them
 pub record Touched (e : Entry) (place : ℕ) : Type 0 where
@@ -84,6 +84,12 @@ pub record InvokeByTimer (e : Entry) : Type 0 where
   pub place : Place
   pub invoke : Shows e (Shown.Invoke peer tid 0 up place)
 
+-- W7: a refused call that changes an octet of the table, GenTID's among them
+pub record RefusedChange (e : Entry) : Type 0 where
+  pub refused : accepted (e .done .answer) ≡ false
+  pub octet : ℕ
+  pub changed : getD (after e) octet 0 ≡ getD (before e) octet 0 → ⊥
+
 -- an entry that is like none of them
 pub record Unlike (e : Entry) (h : List Entry) : Type 0 where
   pub w1 : TwoRecords e → ⊥
@@ -92,3 +98,4 @@ pub record Unlike (e : Entry) (h : List Entry) : Type 0 where
   pub w4 : OthersResult e → ⊥
   pub w5 : AbortUnsent e → ⊥
   pub w6 : InvokeByTimer e → ⊥
+  pub w7 : RefusedChange e → ⊥

@@ -50,7 +50,7 @@ use Rattle.call_receive.proofs.Ways.{Opens, leaves-or-opens}
 use Rattle.call_plans.specs.Calls.{Call, asRequest, planFor, promised, peerIn, isRequest}
 use Rattle.law_steps_sound.specs.Sound.{Sound}
 use Rattle.call_plans.specs.Concerns.{fires}
-use Rattle.law_ways.proofs.Ways.{Known, Idle, Lived, Requested, Arrived, Way}
+use Rattle.law_ways.proofs.Ways.{ToldOrNamed, Idle, Lived, Requested, Arrived, Way}
 use Rattle.law_plans_sound.specs.Plans as Plans
 use Rattle.law_plans_sound.proofs.CallSound.{way-sound}
 use Rattle.law_plans_sound.proofs.Openings.{OpenedAs, opened-as}
@@ -59,9 +59,9 @@ use Rattle.law_plans_sound.proofs.Receives.{ends-free}
 use Rattle.law_calls.proofs.Outcomes.{call-keeps}
 use Rattle.law_calls.proofs.GenTid.{step-leaves}
 use Rattle.law_history.specs.Trace.{Entry, Promise}
-use Rattle.law_history.specs.Tally.{toldOf, peerOf}
+use Rattle.law_history.specs.Tally.{toldOf, accepted, peerOf}
 use Rattle.law_history.specs.Moves.{before, after}
-use Rattle.law_history.specs.Changed.{OutsideRecord, OutsideCached, OutsideCell, NamedOrFired, ByRequest, OpenedAt, NoneChanged, OneChanged, HeaderKept, Framed}
+use Rattle.law_history.specs.Changed.{OutsideRecord, OutsideCached, OutsideCell, NamedOrFired, ByRequest, OpenedAt, NoneChanged, OneChanged, HeaderKept, CallFramed}
 use Rattle.law_one_turn.proofs.Roles.{class-some}
 use Rattle.law_one_turn.proofs.Lived.{its-peer}
 use Rattle.law_data_shown.proofs.Effects.{Left, Effect, done-is, effect}
@@ -73,7 +73,7 @@ abbrev Records : Entry → Type 0
 Records e = NoneChanged e ⊎ ((place : ℕ) × OneChanged e place)
 
 -- a refusal
-refused-framed : (e : Entry) → Promise e → (r : Refusal) → planFor (e .call) (e .lent) ≡ Refuse r → (h : List Entry) → Framed e h
+refused-framed : (e : Entry) → Promise e → (r : Refusal) → planFor (e .call) (e .lent) ≡ Refuse r → (h : List Entry) → CallFramed e h
 unfolding outcome
 refused-framed e p r is h =
     let d = done-is e p (Refuse r) is in
@@ -83,6 +83,7 @@ refused-framed e p r is h =
       lengths = (ap length t, ap length s);
       header = λ k past inside gen cached. ap (λ (x : List ℕ). getD x k 0) t;
       records = inl record { records = λ k past. ap (λ (x : List ℕ). getD x k 0) t; store = s };
+      refused = λ n. (t, (s, ap (λ (x : Done). x .output) d));
     }
 
 module _ (e : Entry) (p : Promise e) (step : Step) (is : planFor (e .call) (e .lent) ≡ Go step) where
@@ -103,6 +104,10 @@ module _ (e : Entry) (p : Promise e) (step : Step) (is : planFor (e .call) (e .l
   told-is : toldOf (e .done .answer) ≡ step .told
   unfolding carriedOut
   told-is = ap (λ (d : Done). toldOf (d .answer)) carried
+
+  taken : accepted (e .done .answer) ≡ true
+  unfolding carriedOut
+  taken = ap (λ (d : Done). accepted (d .answer)) carried
 
   kept : Plans.RestUnchanged (e .lent) (e .done) step
   kept = subst (λ (d : Done). Plans.RestUnchanged (e .lent) d step) (sym (p .keeps)) (call-keeps (e .call) (e .lent) step (p .lends) (f .accepted .fits) is)
@@ -139,11 +144,11 @@ module _ (e : Entry) (p : Promise e) (step : Step) (is : planFor (e .call) (e .l
       of-peer (inl c) = inl c
       of-peer (inr q) = inr (rw q cached)
 
-  framed : (step .changes .cached ≡ Unchanged) ⊎ (step .changes .peer ≡ peerOf (e .call) (e .done .answer)) → Records e → (h : List Entry) → Framed e h
-  framed peer records h = record { lengths = (f .left .same-length, f .left .same-store); header = header-kept peer; records = records }
+  framed : (step .changes .cached ≡ Unchanged) ⊎ (step .changes .peer ≡ peerOf (e .call) (e .done .answer)) → Records e → (h : List Entry) → CallFramed e h
+  framed peer records h = record { lengths = (f .left .same-length, f .left .same-store); header = header-kept peer; records = records; refused = λ n. true-false (sym taken ∙ n) }
 
   -- the call only stores its time
-  idle-framed : Idle (e .call) step → (h : List Entry) → Framed e h
+  idle-framed : Idle (e .call) step → (h : List Entry) → CallFramed e h
   unfolding idleStep idleChanges
   idle-framed i = framed (inl (rw (i .step-is) refl)) (inl (none-changed (rw (i .step-is) refl) (rw (i .step-is) refl) (rw (i .step-is) refl)))
 
@@ -162,11 +167,11 @@ module _ (e : Entry) (p : Promise e) (step : Step) (is : planFor (e .call) (e .l
     unfolding liveStep stepOf Steps.toldOf holderOf
     named = record { live = k .live .live; concerns = k .concerns; told = λ fires. told-is ∙ rw (k .step-is) (go (k .known) fires) }
       where
-        go : Known (e .call) (e .lent) (k .place) (k .asked .tells) → fires (e .call) ≡ true → Steps.toldOf (k .asked .tells) (holderOf r (k .place)) ≡ Told.Fired (roleOf (r .state)) (r .peer) (r .tid)
+        go : ToldOrNamed (e .call) (e .lent) (k .place) (k .asked .tells) → fires (e .call) ≡ true → Steps.toldOf (k .asked .tells) (holderOf r (k .place)) ≡ Told.Fired (roleOf (r .state)) (r .peer) (r .tid)
         go (inl (a, t)) b = rw t refl
         go (inr (a, t)) b = true-false (sym b ∙ a)
 
-    lived-framed : (h : List Entry) → Framed e h
+    lived-framed : (h : List Entry) → CallFramed e h
     unfolding liveStep stepOf turnChanges
     lived-framed = framed (inr lived-peer) (inr (k .place, one-changed (k .place) (rw (k .step-is) refl) (inl named)))
 
@@ -245,7 +250,7 @@ module _ (e : Entry) (p : Promise e) (step : Step) (is : planFor (e .call) (e .l
         go (inl zero) = absurd (class-0 zero live)
         go (inr free) = record { was-free = free; live = rw is live; by = inl (by-request _ is (rw is live)) }
 
-    requested-framed : (h : List Entry) → Framed e h
+    requested-framed : (h : List Entry) → CallFramed e h
     unfolding requestStep requester
     requested-framed = framed (inr request-peer) (opening-records _ (requester (before e) place asked) (requestGiven asked) (Set (nextTid (genTidOf (before e)))) (requestCall asked) (q .accepted .step-is) opened-at)
 
@@ -282,19 +287,19 @@ module _ (e : Entry) (p : Promise e) (step : Step) (is : planFor (e .call) (e .l
             let o = opened-now e (a .time) (a .peer) (a .call-is) (a .unmatched) (rw step-is at (f .left)) live in
             record { was-free = free-found t (count t) _ (opens .free) .is-so; live = rw is live; by = inr (rw is (o .by)) }
 
-    arrived-framed : (h : List Entry) → Framed e h
+    arrived-framed : (h : List Entry) → CallFramed e h
     unfolding arriverOf
     arrived-framed = framed (inr arrived-peer) (opening-records arrives arriver (openedGiven (a .time) (pduOf (e .lent .given))) Unchanged (openedCall (pduOf (e .lent .given))) step-is opened-by)
 
-  accepted-framed : Way (e .call) (e .lent) step → (h : List Entry) → Framed e h
+  accepted-framed : Way (e .call) (e .lent) step → (h : List Entry) → CallFramed e h
   accepted-framed (inl i) = idle-framed i
   accepted-framed (inr (inl k)) = lived-framed k
   accepted-framed (inr (inr (inl q))) = requested-framed q
   accepted-framed (inr (inr (inr a))) = arrived-framed a
 
-pub call-framed : (e : Entry) → Promise e → (h : List Entry) → Framed e h
+pub call-framed : (e : Entry) → Promise e → (h : List Entry) → CallFramed e h
 call-framed e p h = go (planFor (e .call) (e .lent)) refl
   where
-    go : (q : Plan) → planFor (e .call) (e .lent) ≡ q → Framed e h
+    go : (q : Plan) → planFor (e .call) (e .lent) ≡ q → CallFramed e h
     go (Refuse r) is = refused-framed e p r is h
     go (Go step) is = accepted-framed e p step is (effect e p step is .accepted .way) h

@@ -39,9 +39,9 @@ use Rattle.law_ways.proofs.Ways.{Lived, Way, Accepted}
 use Rattle.law_ways.proofs.CallWays.{call-ways}
 use Rattle.law_plans_sound.proofs.CallSound.{way-sound}
 use Rattle.law_history.specs.Trace.{Entry, Promise}
-use Rattle.law_history.specs.Tally.{sentOf, adds}
+use Rattle.law_history.specs.Tally.{sentOf, accepted, adds}
 use Rattle.law_history.specs.Moves.{nameOf, turnAdds}
-use Rattle.law_history.specs.Demand.{accepted, OwnAbort, OwnAborts}
+use Rattle.law_history.specs.Demand.{OwnAbort, OwnAborts}
 use Rattle.law_one_turn.proofs.Counted.{entryOf, sent-is}
 use Rattle.step_sending.proofs.Octets.{tid-whole}
 use Rattle.law_one_turn.proofs.Lived.{lived-adds}

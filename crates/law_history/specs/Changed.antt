@@ -20,7 +20,7 @@ use Rattle.step_plan.specs.declared.Told.the-variants as Told
 use Rattle.call_plans.specs.Calls.{Call, peerIn, isRequest}
 use Rattle.call_plans.specs.Concerns.{Concerns, fires}
 use Rattle.law_history.specs.Trace.{Entry}
-use Rattle.law_history.specs.Tally.{toldOf, peerOf}
+use Rattle.law_history.specs.Tally.{toldOf, accepted, peerOf}
 use Rattle.law_history.specs.Moves.{before, after}
 
 -- where an octet of the table lies: in no octet of the record at a place, not in a peer's cached TID
@@ -86,8 +86,13 @@ pub record OneChanged (e : Entry) (place : ℕ) : Type 0 where
 abbrev pub HeaderKept : Entry → Type 0
 HeaderKept e = (k : ℕ) → genTidAt ≤ k → k < headerSize → (isRequest (e .call) ≡ false) ⊎ (rcrMaxAt ≤ k) → OutsideCached (peerOf (e .call) (e .done .answer)) k → getD (after e) k 0 ≡ getD (before e) k 0
 
--- "A call changes no record but the one it names, opens or fires"
-pub record Framed (e : Entry) (h : List Entry) : Type 0 where
+-- "A refusal gives only its number and changes no lent byte"
+abbrev pub Untouched : Entry → Type 0
+Untouched e = (after e ≡ before e) × ((e .done .store ≡ e .lent .store) × (e .done .output ≡ e .lent .output))
+
+-- "A call changes no record but the one it names, opens or fires", and a refused one nothing at all
+pub record CallFramed (e : Entry) (h : List Entry) : Type 0 where
   pub lengths : (length (after e) ≡ length (before e)) × (length (e .done .store) ≡ length (e .lent .store))
   pub header : HeaderKept e
   pub records : NoneChanged e ⊎ ((place : ℕ) × OneChanged e place)
+  pub refused : accepted (e .done .answer) ≡ false → Untouched e

@@ -24,9 +24,9 @@ use Rattle.step_outcome.specs.declared.Answer.{Answer}
 use Rattle.step_outcome.specs.declared.Answer.the-variants.{Refused, Taken}
 use Rattle.call_plans.specs.Calls.{Call}
 use Rattle.law_history.specs.Trace.{Entry, Throughout}
-use Rattle.law_history.specs.Tally.{Name, sentOf, adds, lives, opens, tally}
+use Rattle.law_history.specs.Tally.{Name, sentOf, accepted, adds, lives, opens, tally}
 use Rattle.law_history.specs.Moves.{before}
-use Rattle.law_history.specs.Changed.{IsInvoke, Framed}
+use Rattle.law_history.specs.Changed.{IsInvoke, CallFramed}
 
 -- a call shows this to its user
 abbrev pub ShownIn : Answer → Shown → Type 0
@@ -101,11 +101,6 @@ Invoke0Exact e h = (peer tid : ℕ) (up : Bool) (place : Place) → Shows e (Sho
 abbrev pub AbortAlone : Entry → List Entry → Type 0
 AbortAlone e h = (n : Name) → 1 ≤ adds e n .aborts → (adds e n .confirms ≡ 0) × (adds e n .results ≡ 0)
 
--- a call was accepted
-abbrev pub accepted : Answer → Bool
-accepted (Refused r) = false
-accepted (Taken sent told first second) = true
-
 -- the user's Abort PDU (type 4, flags 1) with the record's TID and the user's reason, and it is counted under the name that the call gives
 pub record OwnAbort (e : Entry) (role peer tid reason : ℕ) : Type 0 where
   pub name : Name
@@ -139,4 +134,4 @@ pub record Demand3 (max : ℕ) (t : List ℕ) (h : List Entry) : Type 0 where
   pub invokes : Throughout InvokeExact h
   pub invokes-0 : Throughout Invoke0Exact h
   -- "A call changes no record but the one it names, opens or fires"
-  pub framed : Throughout Framed h
+  pub framed : Throughout CallFramed h

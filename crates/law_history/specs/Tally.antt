@@ -50,6 +50,11 @@ abbrev pub toldOf : Answer → Told
 toldOf (Refused r) = Told.Nothing
 toldOf (Taken sent told first second) = told
 
+-- a call was accepted
+abbrev pub accepted : Answer → Bool
+accepted (Refused r) = false
+accepted (Taken sent told first second) = true
+
 -- whom they go to: the peer that the call names, or that of the record that was fired
 abbrev pub peerTold : Told → ℕ → ℕ
 peerTold Told.Nothing peer = peer

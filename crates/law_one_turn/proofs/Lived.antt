@@ -8,7 +8,7 @@ use Rattle.step_live.specs.Turning.{holderOf, liveTurn, liveStep}
 use Rattle.step_outcome.specs.Carry.{Lent, carriedOut}
 use Rattle.call_plans.specs.Calls.{Call}
 use Rattle.law_steps_sound.specs.Sound.{Fits, Sound}
-use Rattle.law_ways.proofs.Ways.{Known, Lived}
+use Rattle.law_ways.proofs.Ways.{ToldOrNamed, Lived}
 use Rattle.law_history.specs.Tally.{peerOf, adds}
 use Rattle.law_history.specs.Moves.{nameOf, turnAdds, Turned}
 use Rattle.law_one_turn.proofs.Counted.{entryOf}
@@ -19,7 +19,7 @@ module _ (c : Call) (l : Lent) (f : Fits l) (step : Step) (k : Lived c l step) w
   its = liveStep (l .table) (k .place) (k .event) (k .given) (k .asked)
 
   -- its PDU goes to the record's peer
-  pub its-peer : Known c l (k .place) (k .asked .tells) → peerOf c (carriedOut l its .answer) ≡ recordAt (l .table) (k .place) .peer
+  pub its-peer : ToldOrNamed c l (k .place) (k .asked .tells) → peerOf c (carriedOut l its .answer) ≡ recordAt (l .table) (k .place) .peer
   unfolding carriedOut liveStep Steps.stepOf Steps.toldOf holderOf
   its-peer (inl (f, e)) = rw e refl
   its-peer (inr (f, (e, p))) = rw e p

@@ -37,7 +37,7 @@ use Rattle.call_timer.specs.Timers.{firedGiven, firedCall, stepBy, timerStep}
 use Rattle.call_timer.proofs.Accepted as Timers
 use Rattle.step_outcome.specs.Carry.{Lent}
 use Rattle.call_plans.specs.Calls.{Call, asRequest, planFor, Lends, timeOf, peerIn, isRequest}
-use Rattle.call_plans.specs.Concerns.{NamedBy, Concerns, Allowed, Comes, fires}
+use Rattle.call_plans.specs.Concerns.{NamedBy, Concerns, StateAllows, Comes, fires}
 use Rattle.law_ways.proofs.Ways.{isResultEvent, Accepted}
 use Rattle.law_ways.proofs.ReceivedAbort.{other, abort-read}
 
@@ -47,7 +47,7 @@ no-exit x e = rw e (omega arith)
 -- a user's answer, result or abort
 module _ (c : Call) (l : Lent) (p : Primitive) (peer : peerIn c ≡ p .peer) (asks : isRequest c ≡ false) (silent : fires c ≡ false) (none : isResultEvent (p .event) ≡ false) (no-abort : eqb (eventNumber (p .event)) 9 ≡ false) (time : p .time ≡ timeOf c)
     (given : Lends c l → p .len ≡ length (l .given)) (exit : Lends c l → p .«exit_len» ≡ length (l .exit)) (names : (place : ℕ) → NamedBy (p .role) (p .peer) (p .tid) (recordAt (l .table) place) → Concerns c l place)
-    (comes : (place : ℕ) → Allowed l place (p .event) → Comes c l place (p .event) (primitiveGiven p)) where
+    (comes : (place : ℕ) → StateAllows l place (p .event) → Comes c l place (p .event) (primitiveGiven p)) where
   by-primitive : (step : Step) → primitivePlan (l .table) (length (l .store)) (length (l .output)) p ≡ Go step → Accepted c l step
   unfolding primitiveStep liveStep stepOf primitiveGiven primitiveCall
   by-primitive step e =

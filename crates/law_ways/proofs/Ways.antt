@@ -44,8 +44,8 @@ pub record Came (c : Call) (l : Lent) (place : ℕ) (event : Event) (asked : Ask
   pub asked-is : asked ≡ takenCall (pduOf (l .given))
 
 -- a call that fires a record tells it; any other tells none and has named the record's peer
-abbrev pub Known : Call → Lent → ℕ → Tells → Type 0
-Known c l place tells = ((fires c ≡ true) × (tells ≡ Tells.Record)) ⊎ ((fires c ≡ false) × ((tells ≡ Tells.Nothing) × (peerIn c ≡ recordAt (l .table) place .peer)))
+abbrev pub ToldOrNamed : Call → Lent → ℕ → Tells → Type 0
+ToldOrNamed c l place tells = ((fires c ≡ true) × (tells ≡ Tells.Record)) ⊎ ((fires c ≡ false) × ((tells ≡ Tells.Nothing) × (peerIn c ≡ recordAt (l .table) place .peer)))
 
 -- a PDU is ignored, or none is due
 pub record Idle (c : Call) (step : Step) : Type 0 where
@@ -69,7 +69,7 @@ pub record Lived (c : Call) (l : Lent) (step : Step) : Type 0 where
   pub given-ok : GivenOk given
   pub lent-ok : Lends c l → LentOk l asked
   pub no-request : isRequest c ≡ false
-  pub known : Known c l place (asked .tells)
+  pub known : ToldOrNamed c l place (asked .tells)
   pub came : Came c l place event asked ⊎ (isResultEvent event ≡ false)
 
 -- a request is accepted
