@@ -9,7 +9,7 @@ use lib.ListN.{length, getD, take, drop, set, length-set, length-drop}
 use lib.Seq.{getD-take, getD-drop, length-take-le, getD-set-same, getD-set-other, ext-getD}
 use Rattle.base_lists.specs.Seq.{put}
 use Rattle.base_lists.proofs.StoresAndParts.{lt-or-le}
-use Rattle.base_octets.specs.Octets.{num, enc, gets}
+use Rattle.base_octets.specs.Octets.{num, enc, gets, Apart}
 
 pub getD-before : (w t : List ℕ) (at k : ℕ) → k < at → getD (put t at w) k 0 ≡ getD t k 0
 unfolding put
@@ -29,10 +29,6 @@ getD-same (a ∷ w) t at zero g h =
 getD-same (a ∷ w) t at (suc k) g h =
     let e : at + suc k ≡ suc at + k = omega arith in
     rw e (getD-same w (set t at a) (suc at) k (rw length-set (omega arith)) (omega arith))
-
--- two stretches of octets that do not meet
-abbrev pub Apart : ℕ → ℕ → ℕ → ℕ → Type 0
-Apart a n b m = (a + n ≤ b) ⊎ (b + m ≤ a)
 
 -- octets that a store does not meet are as they were
 pub gets-apart : (n a : ℕ) (t : List ℕ) (b : ℕ) (w : List ℕ) → Apart a n b (length w) → gets n a (put t b w) ≡ gets n a t

@@ -8,8 +8,8 @@ use mathlib.Core.Bool.{Bool, true, false}
 use lib.ListN.{length, replicate, length-replicate}
 use Rattle.base_layout.specs.Layout.{recordSize, fieldsSize, cachedAt, exitOffset, base, peers, exitBound}
 use Rattle.base_lists.specs.Seq.{put}
-use Rattle.base_octets.specs.Octets.{enc}
-use Rattle.base_octets.proofs.StoredAndRead.{Apart, apart-rows, length-enc}
+use Rattle.base_octets.specs.Octets.{enc, Apart}
+use Rattle.base_octets.proofs.StoredAndRead.{apart-rows, length-enc}
 use Rattle.table_record.specs.Record.{octetsOf}
 use Rattle.table_record.proofs.Back.{length-octets}
 use Rattle.table_layout.specs.Table.{settingsOf, intervalsOf, cachedOf, recordAt, putRecord, clearRecord, putGenTid, putCached, putClock}

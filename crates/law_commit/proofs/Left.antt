@@ -8,8 +8,8 @@ use mathlib.Core.Logic.{_⊎_, inl, inr}
 use lib.ListN.{length, getD, replicate, length-replicate}
 use Rattle.base_layout.specs.Layout.{headerSize, recordSize, fieldsSize, cachedAt, base, exitBase, tidBound, cachedBound}
 use Rattle.base_lists.specs.Seq.{put}
-use Rattle.base_octets.specs.Octets.{enc}
-use Rattle.base_octets.proofs.StoredAndRead.{Apart, length-enc, getD-same}
+use Rattle.base_octets.specs.Octets.{enc, Apart}
+use Rattle.base_octets.proofs.StoredAndRead.{length-enc, getD-same}
 use Rattle.table_record.specs.Record.{stateOf, octetsOf}
 use Rattle.table_record.specs.declared.State.the-variants.{Free}
 use Rattle.table_record.specs.declared.Record.{Record}

@@ -19,7 +19,7 @@ use Rattle.codec_pdu.specs.declared.Pdu.{Pdu}
 use Rattle.codec_reading.specs.Read.{pduOf}
 use Rattle.table_layout.specs.Table.{count, genTidOf, recordAt}
 use Rattle.table_tids.specs.Tids.{nextTid}
-use Rattle.table_finding.proofs.Tests.{Called}
+use Rattle.table_finding.specs.Searched.{Called}
 use Rattle.law_formed_kept.proofs.InRecord.{equal-or}
 use Rattle.law_places.proofs.Places.{live-number, live-range}
 use Rattle.row_events.specs.declared.Event.{Event}

@@ -9,8 +9,8 @@ use Rattle.table_layout.specs.Table.{count, recordAt}
 use Rattle.table_finding.specs.Finding.{isFound, namedOf}
 use Rattle.table_finding.specs.declared.Found.{Found}
 use Rattle.table_finding.specs.declared.Found.the-variants as Found
-use Rattle.table_finding.proofs.Tests.{Called}
-use Rattle.table_finding.proofs.Searches.{NoneOf, named-found, named-nothing}
+use Rattle.table_finding.specs.Searched.{Called, NoneOf}
+use Rattle.table_finding.proofs.Searches.{named-found, named-nothing}
 use Rattle.law_history.specs.Trace.{Entry}
 use Rattle.law_history.specs.Tally.{lives, opens}
 use Rattle.law_history.specs.Demand.{OpenedBy}

@@ -19,8 +19,7 @@ use Rattle.codec_pdu.specs.declared.Pdu.{Pdu}
 use Rattle.codec_reading.specs.Read.{typeOf, pduOf}
 use Rattle.table_layout.specs.Table.{count, recordAt, settingsOf, intervalsOf}
 use Rattle.table_finding.specs.Finding.{freeOf}
-use Rattle.table_finding.proofs.Tests.{Called}
-use Rattle.table_finding.proofs.Searches.{NoneOf}
+use Rattle.table_finding.specs.Searched.{Called, NoneOf}
 use Rattle.row_events.specs.declared.Opening.{Opening}
 use Rattle.row_events.specs.declared.Opening.the-variants as Opening
 use Rattle.row_choice.specs.Rows.{requestedOf, openingOf, invoke0Of, invoke12Of}

@@ -7,8 +7,8 @@ use mathlib.Core.List.{List}
 use mathlib.Core.Logic.{_⊎_, inl, inr}
 use lib.ListN.{length, getD, replicate, length-replicate}
 use Rattle.base_layout.specs.Layout.{headerSize, recordSize, genTidAt, rcrMaxAt, cachedAt, base, exitBase, peers, exitBound}
-use Rattle.base_octets.specs.Octets.{enc}
-use Rattle.base_octets.proofs.StoredAndRead.{Apart, length-enc}
+use Rattle.base_octets.specs.Octets.{enc, Apart}
+use Rattle.base_octets.proofs.StoredAndRead.{length-enc}
 use Rattle.table_record.specs.Record.{octetsOf}
 use Rattle.table_record.proofs.Back.{length-octets}
 use Rattle.table_layout.specs.Table.{putRecord, clearRecord, putGenTid, putCached, putClock}

@@ -8,8 +8,8 @@ use lib.ListN.{length}
 use Rattle.base_layout.specs.Layout.{headerSize, cachedAt, headerSpareAt, timeBound, tidBound, cachedBound, peers}
 use Rattle.base_lists.specs.Seq.{put}
 use Rattle.base_lists.proofs.StoresAndParts.{length-put}
-use Rattle.base_octets.specs.Octets.{enc}
-use Rattle.base_octets.proofs.StoredAndRead.{Apart, getD-before, getD-after, apart-rows, length-enc}
+use Rattle.base_octets.specs.Octets.{enc, Apart}
+use Rattle.base_octets.proofs.StoredAndRead.{getD-before, getD-after, apart-rows, length-enc}
 use Rattle.table_layout.specs.Table.{settingsOf, cachedOf, recordAt, clockOf, genTidOf, putClock, putGenTid, putCached}
 use Rattle.table_layout.proofs.Apart.{clock-apart, gen-tid-apart, settings-apart, rows-apart, cached-apart, record-apart}
 use Rattle.table_layout.proofs.Put.{clock-same, gen-tid-same, cached-same}

@@ -11,7 +11,8 @@ use borrow.Author.Tests.{eqb-true, eqb-false}
 use Rattle.base_layout.specs.Layout.{headerSize, recordSize, fieldsSize, base, spareBase}
 use Rattle.base_lists.specs.Seq.{put}
 use Rattle.base_lists.proofs.StoresAndParts.{told, length-put}
-use Rattle.base_octets.proofs.StoredAndRead.{Apart, getD-before, getD-after, apart-rows}
+use Rattle.base_octets.specs.Octets.{Apart}
+use Rattle.base_octets.proofs.StoredAndRead.{getD-before, getD-after, apart-rows}
 use Rattle.table_layout.specs.Table.{count, settingsOf, recordAt}
 use Rattle.table_layout.proofs.Apart.{clock-apart, gen-tid-apart, settings-apart, rows-apart, cached-apart, record-apart}
 use Rattle.table_header_ok.specs.Header.{HeaderOk}

@@ -9,9 +9,9 @@ use Rattle.base_layout.specs.Layout.{recordSize, fieldsSize, spareSize, spareOf
 use Rattle.base_lists.specs.Seq.{put}
 use Rattle.base_octets.specs.Octets.{enc}
 use Rattle.base_octets.proofs.StoredAndRead.{getD-before, getD-after, getD-same}
-use Rattle.table_record.specs.Record.{octetsOf, flagsOf}
+use Rattle.table_record.specs.Record.{octetsOf, flagsOf, Fits}
 use Rattle.table_record.specs.declared.Record.{Record}
-use Rattle.table_record.proofs.Back.{Fits, length-octets, flags-small}
+use Rattle.table_record.proofs.Back.{length-octets, flags-small}
 use Rattle.table_layout.specs.Table.{count, settingsOf, recordAt, putRecord, clearRecord}
 use Rattle.table_layout.specs.declared.Settings.{Settings}
 use Rattle.table_layout.proofs.Apart.{record-apart}

@@ -12,8 +12,7 @@ use Rattle.table_record.specs.Record.{stateNumber}
 use Rattle.table_record.specs.declared.State.the-variants.{Free}
 use Rattle.table_layout.specs.Table.{count, settingsOf, intervalsOf, recordAt}
 use Rattle.table_record_ok.specs.OneRecord.{Live}
-use Rattle.table_finding.proofs.Tests.{Called}
-use Rattle.table_finding.proofs.Searches.{NoneOf}
+use Rattle.table_finding.specs.Searched.{Called, NoneOf}
 use Rattle.row_events.specs.declared.Opening.{Opening}
 use Rattle.row_events.specs.declared.Opening.the-variants as Opening
 use Rattle.row_columns.specs.Columns.{actWith}

@@ -10,7 +10,7 @@ use Rattle.table_record.specs.declared.Role.{Role}
 use Rattle.table_record.specs.declared.Role.the-variants.{Initiator, Responder}
 use Rattle.table_record.specs.declared.Record.{Record}
 use Rattle.table_layout.specs.Table.{count, recordAt}
-use Rattle.table_finding.proofs.Tests.{Called}
+use Rattle.table_finding.specs.Searched.{Called}
 use Rattle.law_formed_kept.proofs.InRecord.{equal-or}
 use Rattle.law_history.specs.Trace.{Entry}
 use Rattle.law_history.specs.Tally.{Name, lives, acceptsBy, toldOf, opensFor, opens}

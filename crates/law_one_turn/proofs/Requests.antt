@@ -15,8 +15,7 @@ use Rattle.table_record.specs.declared.Role.the-variants.{Initiator}
 use Rattle.table_layout.specs.Table.{count, genTidOf, recordAt}
 use Rattle.table_tids.specs.Tids.{nextTid}
 use Rattle.table_record_ok.specs.OneRecord.{Live}
-use Rattle.table_finding.proofs.Tests.{Called}
-use Rattle.table_finding.proofs.Searches.{NoneOf}
+use Rattle.table_finding.specs.Searched.{Called, NoneOf}
 use Rattle.law_places.proofs.Places.{live-number}
 use Rattle.row_events.specs.declared.Opening.{Opening}
 use Rattle.row_events.specs.declared.Opening.the-variants as Opening

@@ -13,7 +13,8 @@ use Rattle.table_record.specs.declared.State.the-variants.{Free}
 use Rattle.table_record.specs.declared.Record.{Record}
 use Rattle.table_layout.specs.Table.{settingsOf, intervalsOf, recordAt}
 use Rattle.table_record_ok.specs.OneRecord.{Live}
-use Rattle.law_places.proofs.Places.{LiveAt, live-range}
+use Rattle.law_places.specs.Places.{LiveAt}
+use Rattle.law_places.proofs.Places.{live-range}
 use Rattle.row_events.specs.declared.Event.{Event}
 use Rattle.row_turns.specs.Turns.{newRecord}
 use Rattle.row_turns.specs.declared.Given.{Given}

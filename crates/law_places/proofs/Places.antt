@@ -19,7 +19,7 @@ use Rattle.table_finding.specs.declared.Found.the-variants.{At, Nothing}
 use Rattle.table_finding.proofs.Searches.{named-found, free-found}
 use Rattle.table_finding.proofs.Earliest.{due-found}
 use Rattle.step_opening.specs.Opens.{placeFor}
-pub use Rattle.law_places.specs.Places.{LiveAt}
+use Rattle.law_places.specs.Places.{LiveAt}
 
 -- a state that isn't free has a number over 0
 pub live-number : (s : State) → (s ≡ State.Free → ⊥) → 1 ≤ stateNumber s

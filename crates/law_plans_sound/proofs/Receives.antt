@@ -37,7 +37,8 @@ use Rattle.step_commit.specs.declared.TidChange.the-variants.{Unchanged}
 use Rattle.law_commit.specs.Allowed.{SetOk}
 use Rattle.law_sending.specs.SendingLaws.{ClassFits}
 use Rattle.step_opening.specs.Opens.{placeFor, openedTurn}
-use Rattle.law_places.proofs.Places.{LiveAt, free-place}
+use Rattle.law_places.specs.Places.{LiveAt}
+use Rattle.law_places.proofs.Places.{free-place}
 use Rattle.step_plan.specs.Steps.{noPart, idleStep}
 use Rattle.step_plan.specs.declared.Holder.{Holder}
 use Rattle.step_plan.specs.declared.Step.{Step}

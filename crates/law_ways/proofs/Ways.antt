@@ -20,7 +20,7 @@ use Rattle.step_plan.specs.declared.Step.{Step}
 use Rattle.step_plan.specs.declared.Tells.{Tells}
 use Rattle.step_plan.specs.declared.Tells.the-variants as Tells
 use Rattle.step_live.specs.Turning.{liveStep}
-use Rattle.law_places.proofs.Places.{LiveAt}
+use Rattle.law_places.specs.Places.{LiveAt}
 use Rattle.call_request.proofs.Accepted as Requests
 use Rattle.call_receive.specs.Receives.{takenCall, unmatchedStep}
 use Rattle.call_receive.proofs.Accepted as Receives

@@ -13,8 +13,7 @@ use Rattle.table_finding.specs.Finding.{first, isFound, isFree, isNamed,
 use Rattle.table_finding.specs.declared.Found.{Found}
 use Rattle.table_finding.specs.declared.Found.the-variants.{At, Nothing}
 use Rattle.table_finding.proofs.First.{Lowest, Told, first-told}
-use Rattle.table_finding.specs.Searched.{Called, Uses, LowestOf}
-pub use Rattle.table_finding.specs.Searched.{NoneOf}
+use Rattle.table_finding.specs.Searched.{Called, Uses, LowestOf, NoneOf}
 use Rattle.table_finding.proofs.Tests.{Tells, denied, tells-free, tells-named, tells-uses}
 
 module _ (p : Record → Bool) (P : Record → Type 0) (f : (r : Record) → Tells (p r) (P r)) (t : List ℕ) (n : ℕ) where

@@ -14,8 +14,7 @@ use Rattle.table_record.specs.declared.State.the-variants.{Free}
 use Rattle.table_record.specs.declared.Record.{Record}
 use Rattle.table_record.proofs.Back.{state-back}
 use Rattle.table_finding.specs.Finding.{isFree, hasRole, isNamed, usesTid, isDue}
-use Rattle.table_finding.specs.Searched.{Live, Uses, Due}
-pub use Rattle.table_finding.specs.Searched.{Called}
+use Rattle.table_finding.specs.Searched.{Live, Called, Uses, Due}
 
 -- a test that is true exactly where P holds
 abbrev pub Tells : Bool → Type 0 → Type 0

@@ -7,8 +7,8 @@ use native.Mathlib.Omega.{arith}
 use lib.ListN.{length, getD}
 use Rattle.base_layout.specs.Layout.{fieldsSize, cachedAt, base}
 use Rattle.base_lists.specs.Seq.{put}
-use Rattle.base_octets.specs.Octets.{num}
-use Rattle.base_octets.proofs.StoredAndRead.{Apart, gets-apart, getD-before, getD-after}
+use Rattle.base_octets.specs.Octets.{num, Apart}
+use Rattle.base_octets.proofs.StoredAndRead.{gets-apart, getD-before, getD-after}
 use Rattle.table_record.specs.Record.{decoded}
 use Rattle.table_layout.specs.Table.{clockOf, genTidOf, fours, settingsOf, intervalsOf, cachedOf, recordAt}
 

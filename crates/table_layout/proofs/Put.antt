@@ -7,11 +7,11 @@ use native.Mathlib.Omega.{arith}
 use lib.ListN.{length, replicate}
 use Rattle.base_layout.specs.Layout.{headerSize, recordSize, fieldsSize, cachedAt, base}
 use Rattle.base_lists.specs.Seq.{put}
-use Rattle.base_octets.specs.Octets.{gets}
-use Rattle.base_octets.proofs.StoredAndRead.{Apart, gets-same, apart-rows, number-same}
-use Rattle.table_record.specs.Record.{decoded, octetsOf}
+use Rattle.base_octets.specs.Octets.{gets, Apart}
+use Rattle.base_octets.proofs.StoredAndRead.{gets-same, apart-rows, number-same}
+use Rattle.table_record.specs.Record.{decoded, octetsOf, Fits}
 use Rattle.table_record.specs.declared.Record.{Record}
-use Rattle.table_record.proofs.Back.{Fits, length-octets, decoded-back}
+use Rattle.table_record.proofs.Back.{length-octets, decoded-back}
 use Rattle.table_layout.specs.Table.{clockOf, genTidOf, cachedOf, recordAt, putRecord, clearRecord, putClock, putGenTid, putCached}
 use Rattle.table_layout.proofs.Apart.{record-apart}
 

@@ -10,7 +10,7 @@ use Rattle.base_lists.specs.Seq.{bit}
 use Rattle.base_lists.proofs.StoresAndParts.{bit-le}
 use Rattle.base_octets.specs.Octets.{enc, gets}
 use Rattle.base_octets.proofs.StoredAndRead.{num-enc}
-use Rattle.table_record.specs.Record.{stateNumber, stateOf, flagsOf, decoded, octetsOf}
+use Rattle.table_record.specs.Record.{stateNumber, stateOf, flagsOf, decoded, octetsOf, Fits}
 use Rattle.table_record.specs.declared.State.{State}
 use Rattle.table_record.specs.declared.State.the-variants.{Free, IResultWait1, IResultWait2, IResultRespWait, IWaitTimeout, RTidokWait1, RTidokWait2, RInvokeRespWait1, RInvokeRespWait2, RResultWait, RResultRespWait, RWaitTimeout}
 use Rattle.table_record.specs.declared.Record.{Record}
@@ -33,12 +33,6 @@ state-back RWaitTimeout = refl
 pub length-octets : (r : Record) → length (octetsOf r) ≡ fieldsSize
 unfolding octetsOf enc
 length-octets r = refl
-
--- the numbers of a record have room in its octets
-pub record Fits (r : Record) : Type 0 where
-  pub tid : r .tid < 65536
-  pub deadline : r .deadline < 2 ^ 64
-  pub len : r .len < 2 ^ 32
 
 bit-back : (b : Bool) (x : ℕ) → x ≡ bit b → eqb x 1 ≡ b
 bit-back true x e = rw e

@@ -1,5 +1,5 @@
 -- A record (01, "What the reader carries", "TIDs", "Events"): states, TIDs, and the octets of its fields.
-use Prim.Native.Nat.{ℕ, _+_, _*_, _%_, _/_}
+use Prim.Native.Nat.{ℕ, _+_, _*_, _%_, _/_, _^_, _<_}
 use mathlib.Core.List.{List, [], _∷_, _++_}
 use lib.ListN.{getD}
 use lib.Dec.{eqb}
@@ -112,3 +112,9 @@ unfoldable pub octetsOf : Record → List ℕ
 octetsOf r =
     (stateNumber (r .state) ∷ r .peer ∷ [])
     ++ (enc 2 (r .tid) ++ ((r .rcr .0 ∷ r .aec .0 ∷ flagsOf r ∷ r .«exit_len» ∷ []) ++ (enc 8 (r .deadline) ++ enc 4 (r .len))))
+
+-- the numbers of a record have room in these octets
+pub record Fits (r : Record) : Type 0 where
+  pub tid : r .tid < 2 ^ 16
+  pub deadline : r .deadline < 2 ^ 64
+  pub len : r .len < 2 ^ 32
