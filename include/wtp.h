@@ -28,7 +28,7 @@ extern "C" {
 #define WTP_NO_RECORD 8      /* no live record of that role, peer and TID */
 #define WTP_NOT_ALLOWED 9    /* the record's state doesn't allow the call */
 #define WTP_WRONG_SETTING 10 /* a setting or the first TID is out of range */
-#define WTP_WRONG_LENGTH 11  /* a length outside 1 to 1,500, a datagram that can't be separated, no PDU to join */
+#define WTP_WRONG_LENGTH 11  /* a length outside 1 to 1,500, a datagram that can't be separated, no PDU to join or no such part */
 #define WTP_D1 101           /* the fixed header is cut short; in writing, a value too wide for its place */
 #define WTP_D2 102           /* the type is 0 or over 7 */
 #define WTP_D3 103           /* an item runs past the end */
@@ -154,6 +154,13 @@ uint64_t wtp_receive(uint8_t *table, size_t table_len, uint8_t *store, size_t st
 uint64_t wtp_timer(uint8_t *table, size_t table_len, uint8_t *store, size_t store_len, uint8_t *out, size_t out_len,
                    uint64_t *answer, size_t answer_len, uint64_t now);
 
+/* Copies the data of an indication (k is 0 for the first, 1 for the second) to the start of `out` and leaves the rest of it.
+ * `datagram` is the PDU that the call was lent, any octets after a call that was lent none; `store` and `answer` are as the call
+ * left them. The data's length is the indication's word WTP_SHOWN_LENGTH; a source other than 0 is the store.
+ * 1: fewer than 32 words, or `out` is shorter than the data; 11: k over 1, or data that isn't there whole. */
+uint64_t wtp_data(const uint8_t *datagram, size_t datagram_len, const uint8_t *store, size_t store_len,
+                  const uint64_t *answer, size_t answer_len, uint64_t k, uint8_t *out, size_t out_len);
+
 /* Reads the PDU in `pdu` into the first 88 words of `fields`. Starts count from the PDU's first octet.
  * 1: fewer than 88 words; 11: length outside 1 to 1,500; then D2, D1, D5, D6, D3 or D4, D7. */
 uint64_t wtp_read(const uint8_t *pdu, size_t pdu_len, uint64_t *fields, size_t fields_len);
@@ -169,6 +176,10 @@ uint64_t wtp_write(const uint64_t *fields, size_t fields_len, const uint8_t *byt
  * k-th) and how many PDUs there are.
  * 1: fewer than 3 words; 11: length outside 1 to 1,500, or the datagram can't be separated. */
 uint64_t wtp_separate(const uint8_t *datagram, size_t datagram_len, uint64_t k, uint64_t *part, size_t part_len);
+
+/* Separates a datagram and reads its k-th PDU (0 is the first) as wtp_read does: starts count from that PDU's first octet.
+ * 1: fewer than 88 words; 11: length outside 1 to 1,500, a datagram that can't be separated, or no k-th PDU; then as wtp_read. */
+uint64_t wtp_read_part(const uint8_t *datagram, size_t datagram_len, uint64_t k, uint64_t *fields, size_t fields_len);
 
 /* Joins PDUs, which lie one after the other in `bytes` and have these lengths, to a datagram at the start of `out`.
  * Word 0 of the answer is the datagram's length, the other 31 are 0.

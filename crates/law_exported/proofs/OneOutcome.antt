@@ -23,6 +23,12 @@ use Rattle.wtp.proofs.wtp_write.Kinds as write-kinds
 use Rattle.wtp.proofs.wtp_separate as separate
 use Rattle.wtp.proofs.wtp_separate.Reads as separate-reads
 use Rattle.wtp.proofs.wtp_separate.Kinds as separate-kinds
+use Rattle.wtp.proofs.wtp_read_part as read-part
+use Rattle.wtp.proofs.wtp_read_part.Reads as read-part-reads
+use Rattle.wtp.proofs.wtp_read_part.Kinds as read-part-kinds
+use Rattle.wtp.proofs.wtp_data as data-of
+use Rattle.wtp.proofs.wtp_data.Reads as data-of-reads
+use Rattle.wtp.proofs.wtp_data.Kinds as data-of-kinds
 use Rattle.wtp.proofs.wtp_join as join
 use Rattle.wtp.proofs.wtp_join.Reads as join-reads
 use Rattle.wtp.proofs.wtp_join.Kinds as join-kinds
@@ -77,6 +83,16 @@ write-one κs a r r' x y k m = (same (k .0) (m .0), same (k .1) (m .1), same (k 
 pub separate-one : (κs : Lfts 2) (a : ArgsD separate.signature κs) (r r' : ResD separate.signature κs) (x y : AtExit (endedOf 2 separate-kinds.ps separate-kinds.r) κs) → separate-reads.Learnt κs a r x → separate-reads.Learnt κs a r' y
     → (r ≡ r') × ((now (x .1 .1 .0)) ≡ (now (y .1 .1 .0)))
 separate-one κs a r r' x y k m = (same (k .0) (m .0), same (k .1) (m .1))
+
+-- `wtp_read_part`
+pub read-part-one : (κs : Lfts 2) (a : ArgsD read-part.signature κs) (r r' : ResD read-part.signature κs) (x y : AtExit (endedOf 2 read-part-kinds.ps read-part-kinds.r) κs) → read-part-reads.Learnt κs a r x → read-part-reads.Learnt κs a r' y
+    → (r ≡ r') × ((now (x .1 .1 .0)) ≡ (now (y .1 .1 .0)))
+read-part-one κs a r r' x y k m = (same (k .0) (m .0), same (k .1) (m .1))
+
+-- `wtp_data`
+pub data-one : (κs : Lfts 3) (a : ArgsD data-of.signature κs) (r r' : ResD data-of.signature κs) (x y : AtExit (endedOf 3 data-of-kinds.ps data-of-kinds.r) κs) → data-of-reads.Learnt κs a r x → data-of-reads.Learnt κs a r' y
+    → (r ≡ r') × ((now (x .1 .1 .1 .1 .0)) ≡ (now (y .1 .1 .1 .1 .0)))
+data-one κs a r r' x y k m = (same (k .0) (m .0), same (k .1) (m .1))
 
 -- `wtp_join`
 pub join-one : (κs : Lfts 4) (a : ArgsD join.signature κs) (r r' : ResD join.signature κs) (x y : AtExit (endedOf 4 join-kinds.ps join-kinds.r) κs) → join-reads.Learnt κs a r x → join-reads.Learnt κs a r' y

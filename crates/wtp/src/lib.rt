@@ -6,6 +6,7 @@ ghost use lib.Dec.{ltb};
 ghost use Rattle.step_outcome.specs.Carry.{lent};
 ghost use Rattle.table_fresh.specs.Fresh.{tableBytes, freshAnswer, freshNumber, tableAfterFresh};
 ghost use Rattle.c_codec.specs.Calls.{readNumber, fieldsAfter, writeNumber, writeOutput, writeAnswer, separateNumber, partAfter, joinNumber, joinOutput, joinAnswer};
+ghost use Rattle.c_parts.specs.Parts.{readPartNumber, readPartFields, dataNumber, dataOutput};
 ghost use Rattle.call_plans.specs.Calls.{Call};
 ghost use Rattle.wtp.specs.Engine.{called, calledBy};
 use base_numbers::Refusal;
@@ -56,6 +57,28 @@ pub extern "C" fn wtp_join(bytes: &[u8], lengths: &[u64], out: &mut [u8], answer
     ensures { λ r. ⌜ (r ≡ joinNumber (now (bytes .entry)) (now (lengths .entry)) (now (out .entry)) (now (answer .entry))) × (now (out .exit) ≡ joinOutput (now (bytes .entry)) (now (lengths .entry)) (now (out .entry)) (now (answer .entry))) × (now (answer .exit) ≡ joinAnswer (now (bytes .entry)) (now (lengths .entry)) (now (out .entry)) (now (answer .entry))) ⌝ }
 {
     c_codec::join(bytes, lengths, out, answer)
+}
+
+// Reads the k-th PDU of a datagram into 88 words.
+#[no_mangle]
+pub extern "C" fn wtp_read_part(datagram: &[u8], k: u64, fields: &mut [u64]) -> u64
+    ensures { λ r. ⌜ (r ≡ readPartNumber (now (datagram .entry)) k (now (fields .entry))) × (now (fields .exit) ≡ readPartFields (now (datagram .entry)) k (now (fields .entry))) ⌝ }
+{
+    c_parts::read_part(datagram, k, fields)
+}
+
+// Copies the data of an answer's indication, a part of the datagram or of the store, to the start of the output.
+#[no_mangle]
+pub extern "C" fn wtp_data<'a>(
+    datagram: &'a [u8],
+    store: &'a [u8],
+    answer: &[u64],
+    k: u64,
+    out: &mut [u8],
+) -> u64
+    ensures { λ r. ⌜ (r ≡ dataNumber (now (datagram .entry)) (now (store .entry)) (now (answer .entry)) k (now (out .entry))) × (now (out .exit) ≡ dataOutput (now (datagram .entry)) (now (store .entry)) (now (answer .entry)) k (now (out .entry))) ⌝ }
+{
+    c_parts::shown_data(datagram, store, answer, k, out)
 }
 
 // The words of an answer are fewer than 32.

@@ -25,6 +25,8 @@ pub enum Kind {
     Write,
     Separate { k: u64 },
     Join,
+    ReadPart { k: u64 },
+    Data { k: u64 },
 }
 
 /// How many octets or words of each buffer are lent; `words` are those of answer, fields or part.
@@ -41,7 +43,7 @@ pub struct Call {
     pub kind: Kind,
     /// Data, exit information, PDU, datagram or the writer's bytes.
     pub octets: Vec<u8>,
-    /// Settings, the writer's fields or the joiner's lengths.
+    /// Settings, the writer's fields, the joiner's lengths or an answer.
     pub words: Vec<u64>,
     pub sizes: Sizes,
 }
@@ -61,6 +63,8 @@ impl Kind {
             Kind::Write => Some("write"),
             Kind::Separate { .. } => Some("separate"),
             Kind::Join => Some("join"),
+            Kind::ReadPart { .. } => Some("read_part"),
+            Kind::Data { .. } => Some("data"),
             _ => None,
         }
     }
@@ -89,6 +93,8 @@ impl fmt::Display for Kind {
             Kind::Write => write!(f, "write"),
             Kind::Separate { k } => write!(f, "separate: k {k}"),
             Kind::Join => write!(f, "join"),
+            Kind::ReadPart { k } => write!(f, "read_part: k {k}"),
+            Kind::Data { k } => write!(f, "data: k {k}"),
         }
     }
 }

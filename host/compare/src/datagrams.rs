@@ -1,4 +1,4 @@
-//! Draws calls of the separator and the joiner.
+//! Draws calls of the separator, of the reader of a part, and of the joiner.
 
 use crate::calls::{Call, Kind};
 use crate::pdus;
@@ -20,6 +20,39 @@ pub fn draw_separate(random: &mut Random, call: &mut Call) {
     call.kind = Kind::Separate { k };
 }
 
+/// A datagram of PDUs, of which one is to be read; damaged now and then, and seldom one PDU without a length.
+pub fn draw_read_part(random: &mut Random, call: &mut Call) {
+    call.words.clear();
+    call.octets.clear();
+    let count = 1 + random.below(3);
+    let alone = random.percent(5);
+    if !alone {
+        call.octets.push(0);
+    }
+    for _ in 0..count {
+        append_whole_pdu(random, alone, &mut call.octets);
+    }
+    if random.percent(15) {
+        pdus::damage(random, &mut call.octets);
+    }
+    call.kind = Kind::ReadPart { k: random.below(count + 1) };
+}
+
+/// A PDU after its length, or without one; damaged now and then.
+fn append_whole_pdu(random: &mut Random, alone: bool, datagram: &mut Vec<u8>) {
+    let kind = if random.percent(97) { 1 + random.below(7) } else { random.below(16) };
+    let tid = (random.word() >> 48) as u16;
+    let mut pdu = Vec::new();
+    pdus::build(random, kind as u8, tid, &mut pdu);
+    if random.percent(20) {
+        pdus::damage(random, &mut pdu);
+    }
+    if !alone {
+        append_length(random, pdu.len(), datagram);
+    }
+    datagram.append(&mut pdu);
+}
+
 fn part_count(random: &mut Random) -> u64 {
     if random.percent(97) {
         random.below(5)
@@ -31,12 +64,16 @@ fn part_count(random: &mut Random) -> u64 {
 /// A length, in either form and sometimes wrong, and so many octets.
 fn append_part(random: &mut Random, datagram: &mut Vec<u8>) {
     let length = if random.percent(92) { 1 + random.place(4) } else { random.of(&[0, 126, 127, 128, 129, 700, 1497]) };
+    append_length(random, length, datagram);
+    random.append(datagram, length);
+}
+
+fn append_length(random: &mut Random, length: usize, datagram: &mut Vec<u8>) {
     if length > 127 || random.percent(15) {
         datagram.extend_from_slice(&(0x8000 | length as u16).to_be_bytes());
     } else {
         datagram.push(length as u8);
     }
-    random.append(datagram, length);
 }
 
 /// PDUs to be joined, with lengths that add up mostly.

@@ -7,6 +7,7 @@ mod buffers;
 mod calls;
 mod codec;
 mod damage;
+mod data;
 mod datagrams;
 mod differences;
 mod engine;

@@ -3,6 +3,7 @@
 use crate::calls::{Call, Kind};
 use crate::codec;
 use crate::damage;
+use crate::data;
 use crate::datagrams;
 use crate::engine::{self, Sent};
 use crate::fresh;
@@ -49,10 +50,12 @@ impl Session<'_> {
 
     fn step(&mut self) -> Result<(), End> {
         match self.random.below(1000) {
-            0..=709 => self.engine_call().map(drop),
+            0..=649 => self.engine_call().map(drop),
+            650..=709 => self.engine_call_and_data(),
             710..=749 => self.with_damaged_table(),
             750..=869 => self.read_and_write(),
-            870..=929 => self.codec_call(datagrams::draw_separate).map(drop),
+            870..=899 => self.codec_call(datagrams::draw_separate).map(drop),
+            900..=929 => self.codec_call(datagrams::draw_read_part).map(drop),
             930..=989 => self.codec_call(datagrams::draw_join).map(drop),
             990..=994 => self.refused_fresh(),
             _ => self.table_bytes(),
@@ -117,6 +120,16 @@ impl Session<'_> {
             self.keep_sent();
         }
         Ok(number)
+    }
+
+    /// A call of the engine, and then the data of what it shows, or of what its answer says once it is changed.
+    fn engine_call_and_data(&mut self) -> Result<(), End> {
+        if self.engine_call()? != 0 {
+            return Ok(());
+        }
+        let [library, _] = &self.pair.buffers;
+        data::draw(self.random, &library.words, self.call);
+        self.make().map(drop)
     }
 
     /// Keeps the PDU that was sent, if one was, to hand it in again later.

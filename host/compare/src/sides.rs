@@ -58,6 +58,8 @@ pub fn library(call: &Call, buffers: &mut Buffers) -> Said {
         Kind::Write => ffi::write(&call.words, octets, lent.out, lent.words),
         Kind::Separate { k } => ffi::separate(octets, k, lent.words),
         Kind::Join => ffi::join(octets, &call.words, lent.out, lent.words),
+        Kind::ReadPart { k } => ffi::read_part(octets, k, lent.words),
+        Kind::Data { k } => ffi::data(octets, lent.store, &call.words, k, lent.out),
     })
 }
 
@@ -77,5 +79,7 @@ pub fn twin(call: &Call, buffers: &mut Buffers) -> Said {
         Kind::Write => without_row(twin::write(&call.words, octets, lent.out, lent.words)),
         Kind::Separate { k } => without_row(twin::separate(octets, k, lent.words)),
         Kind::Join => without_row(twin::join(octets, &call.words, lent.out, lent.words)),
+        Kind::ReadPart { k } => without_row(twin::read_part(octets, k, lent.words)),
+        Kind::Data { k } => without_row(twin::data(octets, lent.store, &call.words, k, lent.out)),
     }
 }

@@ -8,9 +8,9 @@ use wtp::ffi::{ANSWER, FIELDS, OUTPUT, PART, SENDING};
 /// The sizes that the call asks for, with an output that may be longer.
 pub fn right(random: &mut Random, kind: Kind, records: usize) -> Sizes {
     let (out, words) = match kind {
-        Kind::Read => (OUTPUT, FIELDS),
+        Kind::Read | Kind::ReadPart { .. } => (OUTPUT, FIELDS),
         Kind::Separate { .. } => (OUTPUT, PART),
-        Kind::Write | Kind::Join => (OUTPUT, ANSWER),
+        Kind::Write | Kind::Join | Kind::Data { .. } => (OUTPUT, ANSWER),
         _ => (random.of(&[SENDING, OUTPUT]), ANSWER),
     };
     Sizes { table: layout::table_bytes(records), store: layout::CELL * records, out, words }
@@ -19,7 +19,8 @@ pub fn right(random: &mut Random, kind: Kind, records: usize) -> Sizes {
 /// Changes one of the sizes that matter to the call, or those of table and store together.
 pub fn change(random: &mut Random, kind: Kind, sizes: &mut Sizes) {
     let choice = match kind {
-        Kind::Read | Kind::Separate { .. } => 3,
+        Kind::Read | Kind::ReadPart { .. } | Kind::Separate { .. } => 3,
+        Kind::Data { .. } => 2,
         Kind::Write | Kind::Join => 2 + random.below(2),
         Kind::Fresh { .. } => 0,
         _ => random.below(6),

@@ -8,12 +8,14 @@ use std::fmt;
 use twin::Row;
 
 /// The outcomes that each call without rows can have.
-const OUTCOMES: [(&str, &[u64]); 5] = [
+const OUTCOMES: [(&str, &[u64]); 7] = [
     ("fresh", &[0, 1, 10]),
     ("read", &[0, 1, 11, 101, 102, 103, 104, 105, 106, 107]),
     ("write", &[0, 1, 11, 101, 102, 103, 104, 105, 106, 107]),
     ("separate", &[0, 1, 11]),
     ("join", &[0, 1, 11]),
+    ("read_part", &[0, 1, 11, 101, 102, 103, 104, 105, 106, 107]),
+    ("data", &[0, 1, 11]),
 ];
 
 #[derive(Default)]
@@ -81,7 +83,7 @@ mod tests {
     #[test]
     fn what_was_never_counted_is_named() {
         let mut tally = Tally::default();
-        let all = Row::ALL.len() + 29;
+        let all = Row::ALL.len() + 42;
         assert_eq!(tally.never_reached().len(), all);
         tally.count(Kind::Timer { now: 0 }, Said { number: 0, row: Some(Row::ALL[0]) });
         tally.count(Kind::Read, Said { number: 104, row: None });

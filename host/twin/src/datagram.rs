@@ -3,7 +3,8 @@
 use crate::bounds;
 use crate::output::Output;
 use crate::pdu::Part;
-use crate::words::{ANSWER, PART};
+use crate::reading::read;
+use crate::words::{ANSWER, FIELDS, PART};
 
 pub fn separate(datagram: &[u8], k: u64, part: &mut [u64]) -> u64 {
     let words = match part.get_mut(..PART) {
@@ -18,6 +19,20 @@ pub fn separate(datagram: &[u8], k: u64, part: &mut [u64]) -> u64 {
             words.copy_from_slice(&[found.start as u64, found.length as u64, count]);
             0
         }
+        None => 11,
+    }
+}
+
+/// Reads the k-th PDU; where there is none, its length is 0 and so wrong.
+pub fn read_part(datagram: &[u8], k: u64, fields: &mut [u64]) -> u64 {
+    if fields.len() < FIELDS {
+        return 1;
+    }
+    if !(1..=bounds::PDU).contains(&datagram.len()) {
+        return 11;
+    }
+    match walk(datagram, k) {
+        Some((found, _)) => read(&datagram[found.start..found.end()], fields),
         None => 11,
     }
 }

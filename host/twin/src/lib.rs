@@ -4,6 +4,7 @@
 
 mod answer;
 mod bounds;
+mod data;
 mod datagram;
 mod engine;
 mod event;
@@ -30,7 +31,8 @@ mod transaction;
 mod words;
 mod writing;
 
-pub use datagram::{join, separate};
+pub use data::data;
+pub use datagram::{join, read_part, separate};
 pub use fresh::{fresh, table_bytes};
 pub use primitives::{abort, answer, result};
 pub use reading::read;

@@ -53,6 +53,13 @@ pub fn separate(datagram: &[u8]) -> Result<Vec<&[u8]>, Refused> {
     (0..count).map(nth).collect()
 }
 
+/// Reads the k-th PDU of a datagram; starts count from its first octet.
+pub fn read_part(datagram: &[u8], k: u64) -> Result<Fields, Refused> {
+    let mut fields = [0; ffi::FIELDS];
+    accepted(ffi::read_part(datagram, k, &mut fields))?;
+    Ok(fields)
+}
+
 /// The datagram of these PDUs.
 pub fn join(pdus: &[&[u8]]) -> Result<Vec<u8>, Refused> {
     let lengths = pdus.iter().map(|pdu| u64::try_from(pdu.len())).collect::<Result<Vec<_>, _>>();

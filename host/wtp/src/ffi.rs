@@ -59,6 +59,9 @@ extern "C" {
     fn wtp_write(fields: *const u64, fields_len: usize, bytes: *const u8, bytes_len: usize,
                  out: *mut u8, out_len: usize, answer: *mut u64, answer_len: usize) -> u64;
     fn wtp_separate(datagram: *const u8, datagram_len: usize, k: u64, part: *mut u64, part_len: usize) -> u64;
+    fn wtp_read_part(datagram: *const u8, datagram_len: usize, k: u64, fields: *mut u64, fields_len: usize) -> u64;
+    fn wtp_data(datagram: *const u8, datagram_len: usize, store: *const u8, store_len: usize,
+                answer: *const u64, answer_len: usize, k: u64, out: *mut u8, out_len: usize) -> u64;
     fn wtp_join(bytes: *const u8, bytes_len: usize, lengths: *const u64, lengths_len: usize,
                 out: *mut u8, out_len: usize, answer: *mut u64, answer_len: usize) -> u64;
 }
@@ -135,6 +138,28 @@ pub fn write(fields: &[u64], bytes: &[u8], out: &mut [u8], answer: &mut [u64]) -
 pub fn separate(datagram: &[u8], k: u64, part: &mut [u64]) -> u64 {
     // SAFETY: as in `engine`.
     unsafe { wtp_separate(datagram.as_ptr(), datagram.len(), k, part.as_mut_ptr(), part.len()) }
+}
+
+pub fn read_part(datagram: &[u8], k: u64, fields: &mut [u64]) -> u64 {
+    // SAFETY: as in `engine`.
+    unsafe { wtp_read_part(datagram.as_ptr(), datagram.len(), k, fields.as_mut_ptr(), fields.len()) }
+}
+
+pub fn data(datagram: &[u8], store: &[u8], answer: &[u64], k: u64, out: &mut [u8]) -> u64 {
+    // SAFETY: as in `engine`.
+    unsafe {
+        wtp_data(
+            datagram.as_ptr(),
+            datagram.len(),
+            store.as_ptr(),
+            store.len(),
+            answer.as_ptr(),
+            answer.len(),
+            k,
+            out.as_mut_ptr(),
+            out.len(),
+        )
+    }
 }
 
 pub fn join(bytes: &[u8], lengths: &[u64], out: &mut [u8], answer: &mut [u64]) -> u64 {

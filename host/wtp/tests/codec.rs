@@ -1,6 +1,6 @@
 //! The bench cases of document 01, over the wrapper.
 
-use wtp::codec::{join, read, separate, word, write};
+use wtp::codec::{join, read, read_part, separate, word, write};
 use wtp::Refused;
 
 #[test]
@@ -45,6 +45,16 @@ fn datagrams_are_separated_and_joined() {
     assert_eq!(pdus, [&[0x18, 0x80, 0x05][..], &[0x20, 0x80, 0x06, 0x08]]);
     assert_eq!(join(&pdus).unwrap(), datagram);
     assert_eq!(separate(&[0x16, 0x80, 0x05]).unwrap(), [&[0x16, 0x80, 0x05]]);
+}
+
+#[test]
+fn a_part_is_read_as_the_pdu_that_it_is() {
+    let datagram = [0x00, 0x03, 0x18, 0x80, 0x05, 0x04, 0x20, 0x80, 0x06, 0x08];
+    assert_eq!(read_part(&datagram, 0), read(&[0x18, 0x80, 0x05]));
+    assert_eq!(read_part(&datagram, 1), read(&[0x20, 0x80, 0x06, 0x08]));
+    assert_eq!(read_part(&datagram, 2), Err(Refused::WrongLength));
+    assert_eq!(read_part(&[0x00, 0x01, 0x18], 0), read(&[0x18]));
+    assert_eq!(read_part(&[0x00, 0x00], 0), Err(Refused::WrongLength));
 }
 
 #[test]

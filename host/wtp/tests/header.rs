@@ -33,7 +33,7 @@ fn exported() -> BTreeMap<String, Vec<String>> {
 }
 
 fn passed(proved_type: &str) -> String {
-    match proved_type {
+    match proved_type.replace("'a ", "").as_str() {
         "&mut [u8]" => "*mut u8, usize".to_string(),
         "&mut [u64]" => "*mut u64, usize".to_string(),
         "&[u8]" => "*const u8, usize".to_string(),
@@ -46,6 +46,7 @@ fn function(rest: &str, of_type: impl Fn(&str) -> String) -> (String, Vec<String
     let (name, parameters) = rest.split_once('(').unwrap();
     let parameters = parameters.split_once(')').unwrap().0;
     let types = parameters.split(',').filter(|parameter| !parameter.trim().is_empty());
+    let name = name.split('<').next().unwrap();
     (name.trim().to_string(), types.map(of_type).collect())
 }
 
@@ -91,7 +92,7 @@ fn enumerators() -> BTreeMap<String, usize> {
 #[test]
 fn every_function_has_the_parameters_of_the_header() {
     let in_c = declared_in_c();
-    assert_eq!(in_c.len(), 12);
+    assert_eq!(in_c.len(), 14);
     assert_eq!(in_c, declared_in_rust());
 }
 

@@ -21,6 +21,26 @@ fn too_few_words_for_a_part() {
     assert_eq!(ffi::separate(&INVOKE, 0, &mut part), 0);
 }
 
+#[test]
+fn too_few_words_for_a_part_that_is_read() {
+    let mut words = [7; FIELDS];
+    assert_eq!(ffi::read_part(&[0, 0], 0, &mut words[1..]), WRONG_SIZE);
+    assert_eq!(words, [7; FIELDS]);
+    assert_eq!(ffi::read_part(&INVOKE, 0, &mut words), 0);
+}
+
+#[test]
+fn too_few_words_or_too_short_an_output_for_data() {
+    let mut answer = [0; ANSWER];
+    answer[14] = 4;
+    let mut out = [7; 4];
+    assert_eq!(ffi::data(&INVOKE, &[], &answer[1..], 0, &mut out), WRONG_SIZE);
+    assert_eq!(ffi::data(&INVOKE, &[], &answer, 0, &mut out[1..]), WRONG_SIZE);
+    assert_eq!(out, [7; 4]);
+    assert_eq!(ffi::data(&INVOKE, &[], &answer, 0, &mut out), 0);
+    assert_eq!(out, INVOKE);
+}
+
 /// Whether a call with this output and this answer is refused for its sizes and leaves both.
 fn refused(call: impl FnOnce(&mut [u8], &mut [u64]) -> u64, output: usize, answer: usize) -> bool {
     let (mut out, mut words) = (vec![7; output], vec![7; answer]);
