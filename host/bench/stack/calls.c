@@ -90,6 +90,16 @@ void join(const struct octets *bytes, const uint64_t *lengths, size_t lengths_le
     READY(wtp_join, PART_OF(bytes), AT(lengths), lengths_len, AT(lent.out), sizeof lent.out, AT(lent.answer), lent.answer_len);
 }
 
+void read_part(const struct octets *datagram, uint64_t k)
+{
+    READY(wtp_read_part, PART_OF(datagram), k, AT(lent.words), lent.words_len);
+}
+
+void shown_data(const struct octets *datagram, uint64_t k)
+{
+    READY(wtp_data, PART_OF(datagram), AT(lent.store), sizeof lent.store, AT(lent.answer), lent.answer_len, k, AT(lent.out), sizeof lent.out);
+}
+
 void stop_with(const char *where, const char *what)
 {
     fprintf(stderr, "%s: %s\n", where, what);

@@ -35,6 +35,8 @@ void read_pdu(const struct octets *pdu);
 void write_pdu(const uint64_t *fields, size_t fields_len, const struct octets *bytes);
 void separate(const struct octets *datagram, uint64_t k);
 void join(const struct octets *bytes, const uint64_t *lengths, size_t lengths_len);
+void read_part(const struct octets *datagram, uint64_t k);
+void shown_data(const struct octets *datagram, uint64_t k);
 
 /* Makes the call that is ready; it must be accepted. */
 void made(void);

@@ -205,6 +205,58 @@ static void joined(void)
     row("refused, 11: no PDU", WTP_WRONG_LENGTH);
 }
 
+/* A datagram whose second PDU is an Invoke with so many empty items. */
+static const struct octets *with_items(unsigned count)
+{
+    static struct octets datagram;
+    const struct octets *pdu;
+    invoke(INVOKE, 5, 2);
+    pdu = empty_items(count, 0);
+    memcpy(datagram.at, (const uint8_t[]){ 0, 3, ACK, 0, 5, (uint8_t)pdu->length }, 6);
+    memcpy(datagram.at + 6, pdu->at, pdu->length);
+    datagram.length = 6 + pdu->length;
+    return &datagram;
+}
+
+static void parts_read(void)
+{
+    read_part(with_items(1), 0);
+    row("two PDUs, the first", WTP_OK);
+    read_part(with_items(16), 1);
+    row("two PDUs, the second with 16 items", WTP_OK);
+    read_part(with_items(17), 1);
+    row("D4: two PDUs, the second with 17 items", WTP_D4);
+    read_part(full_datagram(), SMALL_PDUS - 1);
+    row("D1: 749 PDUs of one octet, the last", WTP_D1);
+    read_part(full_datagram(), UINT64_MAX);
+    row("refused, 11: 749 PDUs, and none of that place", WTP_WRONG_LENGTH);
+    lent.words_len = WTP_FIELDS - 1;
+    read_part(with_items(1), 0);
+    row("refused, 1: 87 words", WTP_WRONG_SIZE);
+    lent.words_len = WTP_FIELDS;
+}
+
+static void data_copied(void)
+{
+    nothing();
+    octets_of(WTP_OUTPUT);
+    memset(lent.answer, 0, sizeof lent.answer);
+    lent.answer[WTP_FIRST + WTP_SHOWN_LENGTH] = WTP_OUTPUT;
+    shown_data(octets_of(0), 0);
+    row("1,500 octets of the datagram", WTP_OK);
+    lent.answer[WTP_SECOND + WTP_SHOWN_SOURCE] = WTP_FROM_STORE;
+    lent.answer[WTP_SECOND + WTP_SHOWN_START] = (RECORDS - 1) * WTP_CELL;
+    lent.answer[WTP_SECOND + WTP_SHOWN_LENGTH] = WTP_CELL;
+    shown_data(octets_of(0), 1);
+    row("1,024 octets of the store", WTP_OK);
+    lent.answer[WTP_SECOND + WTP_SHOWN_START] = UINT64_MAX;
+    shown_data(octets_of(0), 1);
+    row("refused, 11: a start of 2^64 - 1", WTP_WRONG_LENGTH);
+    lent.answer[WTP_SECOND + WTP_SHOWN_LENGTH] = UINT64_MAX;
+    shown_data(octets_of(0), 1);
+    row("refused, 1: a length of 2^64 - 1", WTP_WRONG_SIZE);
+}
+
 void codec_rows(void)
 {
     lent.answer_len = WTP_ANSWER;
@@ -218,4 +270,6 @@ void codec_rows(void)
     wrong_words();
     datagrams();
     joined();
+    parts_read();
+    data_copied();
 }
