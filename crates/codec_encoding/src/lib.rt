@@ -96,7 +96,7 @@ fn put_header(out: &mut [u8], src: &[u8], con: bool, kind: Kind, tid: u16) -> us
 }
 
 // Stores an item, whose data lies in src, from `at` on; the place after it.
-fn put_item(out: &mut [u8], at: usize, src: &[u8], it: Item, con: bool) -> usize
+pub fn put_item(out: &mut [u8], at: usize, src: &[u8], it: Item, con: bool) -> usize
     requires { ⌜ FitItem (now src) it ⌝ }
     requires { ⌜ at + length (itemOctets (now src) con it) ≤ length (now out) ⌝ }
     ensures { λ r. ⌜ (r ≡ at + length (itemOctets (now (src .entry)) con it)) × (now (out .exit) ≡ put (now (out .entry)) at (itemOctets (now (src .entry)) con it)) ⌝ }
