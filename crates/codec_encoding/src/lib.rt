@@ -1,14 +1,12 @@
-// Writing a PDU whose fields fit (WAP-224, 8.2 to 8.4): straight from its source into the output.
+// Writing a header and an item whose fields fit (WAP-224, 8.2 to 8.4): straight from their source into the output.
 ghost use mathlib.Core.Path.{_≡_};
-ghost use mathlib.Core.List.{_++_};
 ghost use mathlib.Core.Bool.{false};
 ghost use Prim.Native.Nat.{_+_, _*_, _≤_, _<_};
-ghost use lib.ListN.{length, take};
+ghost use lib.ListN.{length};
 ghost use Rattle.base_lists.specs.Seq.{bit, put};
-ghost use Rattle.codec_encoding.specs.Write.{typeNumber, flagsOf, extraOf, headerOf, three, itemOctets, itemsOctets, octetsOf, FitItem, FitItems, FitKind, Fit};
+ghost use Rattle.codec_encoding.specs.Write.{typeNumber, flagsOf, extraOf, headerOf, three, itemOctets, FitItem, FitKind};
 use codec_items::Item;
 use codec_pdu::Kind;
-use codec_pdu::Pdu;
 
 fn three_of(a: bool, b: bool, c: bool) -> u8
     ensures { λ r. ⌜ (r ≡ three a b c) × (r < 8) ⌝ }
@@ -84,7 +82,7 @@ fn put_extra(out: &mut [u8], src: &[u8], kind: Kind) -> usize
 }
 
 // Stores the fixed header at the start of the output; the place after it.
-fn put_header(out: &mut [u8], src: &[u8], con: bool, kind: Kind, tid: u16) -> usize
+pub fn put_header(out: &mut [u8], src: &[u8], con: bool, kind: Kind, tid: u16) -> usize
     requires { ⌜ FitKind (now src) kind ⌝ }
     requires { ⌜ length (headerOf (now src) con kind tid) ≤ length (now out) ⌝ }
     ensures { λ r. ⌜ (r ≡ length (headerOf (now (src .entry)) con kind tid)) × (now (out .exit) ≡ put (now (out .entry)) 0 (headerOf (now (src .entry)) con kind tid)) ⌝ }
@@ -96,7 +94,7 @@ fn put_header(out: &mut [u8], src: &[u8], con: bool, kind: Kind, tid: u16) -> us
 }
 
 // Stores an item, whose data lies in src, from `at` on; the place after it.
-fn put_item(out: &mut [u8], at: usize, src: &[u8], it: Item, con: bool) -> usize
+pub fn put_item(out: &mut [u8], at: usize, src: &[u8], it: Item, con: bool) -> usize
     requires { ⌜ FitItem (now src) it ⌝ }
     requires { ⌜ at + length (itemOctets (now src) con it) ≤ length (now out) ⌝ }
     ensures { λ r. ⌜ (r ≡ at + length (itemOctets (now (src .entry)) con it)) × (now (out .exit) ≡ put (now (out .entry)) at (itemOctets (now (src .entry)) con it)) ⌝ }
@@ -114,39 +112,4 @@ fn put_item(out: &mut [u8], at: usize, src: &[u8], it: Item, con: bool) -> usize
         base_lists::copy(&mut *out, at + 1, src, start, len);
         at + 1 + len
     }
-}
-
-// Stores the first n items of the list from `at` on, the last with CON clear; the place after them.
-fn put_items(out: &mut [u8], at: usize, src: &[u8], list: [Item; 16], n: usize) -> usize
-    requires { ⌜ n ≤ 16 ⌝ }
-    requires { ⌜ FitItems (now src) (take n list) ⌝ }
-    requires { ⌜ at + length (itemsOctets (now src) false (take n list)) ≤ length (now out) ⌝ }
-    ensures { λ r. ⌜ (r ≡ at + length (itemsOctets (now (src .entry)) false (take n list))) × (now (out .exit) ≡ put (now (out .entry)) at (itemsOctets (now (src .entry)) false (take n list))) ⌝ }
-{
-    let mut next = at;
-    let mut k = 0;
-    while k < n {
-        let it = list[k];
-        next = put_item(&mut *out, next, src, it, k + 1 < n);
-        k += 1;
-    }
-    next
-}
-
-// Writes a PDU that fits, and whose octets the output holds; its length.
-pub fn put_pdu(out: &mut [u8], src: &[u8], p: Pdu) -> usize
-    requires { ⌜ Fit (now src) p ⌝ }
-    requires { ⌜ p .count ≤ 16 ⌝ }
-    requires { ⌜ length (octetsOf (now src) p) ≤ length (now out) ⌝ }
-    ensures { λ r. ⌜ (r ≡ length (octetsOf (now (src .entry)) p)) × (now (out .exit) ≡ put (now (out .entry)) 0 (octetsOf (now (src .entry)) p)) ⌝ }
-{
-    let kind = p.kind;
-    let list = p.list;
-    let count = p.count;
-    let start = p.start;
-    let len = p.len;
-    let items = put_header(&mut *out, src, 0 < count, kind, p.tid);
-    let user = put_items(&mut *out, items, src, list, count);
-    base_lists::copy(out, user, src, start, len);
-    user + len
 }

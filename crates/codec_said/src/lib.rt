@@ -1,13 +1,11 @@
-// The PDU that the 88 words of the C interface say.
+// The kind and the items that the 88 words of the C interface say.
 ghost use mathlib.Core.Path.{_≡_};
 ghost use Prim.Native.Nat.{_%_, _≤_, _<_};
 ghost use lib.ListN.{length};
-ghost use Rattle.codec_said.specs.Said.{invokeSaid, kindSaid, itemSaid, itemsSaid, pduSaid};
+ghost use Rattle.codec_said.specs.Said.{invokeSaid, kindSaid, itemSaid};
 use base_numbers::Malformed;
-use base_numbers::Verdict;
 use codec_items::Item;
 use codec_pdu::Kind;
-use codec_pdu::Pdu;
 
 fn octet(x: u64) -> u8
     ensures { λ r. ⌜ r ≡ x % 256 ⌝ }
@@ -32,7 +30,7 @@ fn invoke_said(words: &[u64]) -> Kind
 }
 
 // The kind that words 0 to 14 say.
-fn kind_said(words: &[u64]) -> Kind
+pub fn kind_said(words: &[u64]) -> Kind
     requires { ⌜ 88 ≤ length (now words) ⌝ }
     ensures { λ r. ⌜ r ≡ kindSaid (now (words .entry)) ⌝ }
 {
@@ -73,7 +71,7 @@ fn kind_said(words: &[u64]) -> Kind
 }
 
 // The item k that its four words say.
-fn item_said(words: &[u64], k: usize) -> Item
+pub fn item_said(words: &[u64], k: usize) -> Item
     requires { ⌜ (88 ≤ length (now words)) × (k < 16) ⌝ }
     ensures { λ r. ⌜ r ≡ itemSaid (now (words .entry)) k ⌝ }
 {
@@ -83,38 +81,5 @@ fn item_said(words: &[u64], k: usize) -> Item
         long: words[at + 1] == 1,
         start: words[at + 2] as usize,
         len: words[at + 3] as usize,
-    }
-}
-
-// All 16 items, also those past the number of items.
-fn items_said(words: &[u64]) -> [Item; 16]
-    requires { ⌜ 88 ≤ length (now words) ⌝ }
-    ensures { λ r. ⌜ r ≡ itemsSaid (now (words .entry)) ⌝ }
-{
-    let none = codec_items::none(Verdict::Sound, 0);
-    let mut list = none.list;
-    let mut k = 0;
-    while k < 16 {
-        let it = item_said(words, k);
-        list[k] = it;
-        k += 1;
-    }
-    list
-}
-
-// The PDU that words say, whatever is wrong with it.
-pub fn said(words: &[u64]) -> Pdu
-    requires { ⌜ 88 ≤ length (now words) ⌝ }
-    ensures { λ r. ⌜ r ≡ pduSaid (now (words .entry)) ⌝ }
-{
-    let kind = kind_said(words);
-    let list = items_said(words);
-    Pdu {
-        kind,
-        tid: (words[4] % 65536) as u16,
-        count: words[15] as usize,
-        list,
-        start: words[16] as usize,
-        len: words[17] as usize,
     }
 }

@@ -1,5 +1,6 @@
 pub mod Steps
 pub mod Bounds
+pub mod Narrow
 pub mod Types
 pub mod ItemLists
 pub mod SaidItems

@@ -10,10 +10,12 @@ use borrow.Author.Tests.{lt-ltb}
 use Rattle.base_lists.specs.Seq.{pick}
 use Rattle.base_lists.proofs.StoresAndParts.{lt-or-le, length-tab, getD-tab}
 use Rattle.codec_items.specs.Items.{noItem}
+use Rattle.codec_items.specs.declared.Item.{Item}
 use Rattle.codec_said.specs.Said.{word, itemSaid, itemsSaid}
 use Rattle.codec_encoding.specs.Write.{longest, FitItem}
 use Rattle.codec_verdict.specs.Length.{formLength, itemLength}
-use Rattle.codec_verdict.specs.Widths.{any, longestSaid, widestItem}
+use Rattle.codec_verdict.specs.Widths.{any, longestSaid, widestItem, inside}
+use Rattle.codec_verdict.specs.Judge.{itemInside}
 use Rattle.codec_verdict.proofs.Bounds.{Fitting, at-item}
 use Rattle.codec_verdict.proofs.ItemLists.{octetsIn}
 
@@ -25,6 +27,10 @@ module _ (w : List ℕ) where
   pub said-at : (k : ℕ) → k < 16 → getD (itemsSaid w) k noItem ≡ itemSaid w k
   unfolding itemsSaid
   said-at k h = let z : 0 + k ≡ k = omega arith in getD-tab (itemSaid w) 16 0 k noItem h ∙ ap (itemSaid w) z
+
+  pub said-inside : (n k : ℕ) → k < 16 → itemInside n (itemsSaid w) k ≡ inside n (word w (24 + 4 * k + 2)) (word w (24 + 4 * k + 3))
+  unfolding itemSaid
+  said-inside n k h = ap (λ (it : Item). inside n (it .start) (it .len)) (said-at k h)
 
   -- the bound of a word of an item that there is
   pub widest-there : (k j : ℕ) → k < word w 15 → widestItem w k j ≡ getD (15 ∷ 1 ∷ any ∷ longestSaid (word w (24 + 4 * k + 1)) ∷ []) j 0

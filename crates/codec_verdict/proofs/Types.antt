@@ -33,6 +33,20 @@ typed (suc (suc (suc (suc (suc (suc zero)))))) h l = seg-result refl
 typed (suc (suc (suc (suc (suc (suc (suc zero))))))) h l = nack refl
 typed (suc (suc (suc (suc (suc (suc (suc (suc t)))))))) h l = absurd (omega arith)
 
+-- a number below 8 that is none of the seven
+pub untyped : (t : ℕ) → t < 8 → (t ≡ 1 → ⊥) → (t ≡ 2 → ⊥) → (t ≡ 3 → ⊥) → (t ≡ 4 → ⊥) → (t ≡ 5 → ⊥) → (t ≡ 6 → ⊥) → (t ≡ 7 → ⊥) → t ≡ 0
+untyped zero h a b c d e f g = refl
+untyped (suc t) h a b c d e f g = absurd (none (typed (suc t) (λ z. omega arith) (omega arith)))
+  where
+    none : Typed (suc t) → ⊥
+    none (invoke q) = a q
+    none (result q) = b q
+    none (ack q) = c q
+    none (abort q) = d q
+    none (seg-invoke q) = e q
+    none (seg-result q) = f q
+    none (nack q) = g q
+
 -- the kind fits s, and its header is as long as the words say
 pub record KindFits (s w : List ℕ) (k : Kind) : Type 0 where
   pub fits : FitKind s k

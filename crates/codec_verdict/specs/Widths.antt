@@ -2,9 +2,9 @@
 use Prim.Native.Nat.{ℕ, _+_, _-_, _*_, _/_, _%_}
 use mathlib.Core.List.{List, [], _∷_}
 use mathlib.Core.Bool.{Bool, false}
-use lib.ListN.{getD}
+use lib.ListN.{length, getD}
 use lib.Dec.{ltb, leb, eqb}
-use Rattle.base_lists.specs.Seq.{pick, every}
+use Rattle.base_lists.specs.Seq.{pick, every, tab}
 use Rattle.codec_said.specs.Said.{word}
 
 -- the widest value of a word: any is right
@@ -77,6 +77,28 @@ narrowAt w i = leb (word w i) (widest w i)
 -- all 88 words, those "that the type hasn't" among them
 unfoldable pub noneTooWide : List ℕ → Bool
 noneTooWide w = every (narrowAt w) 88
+
+-- the widest values of eight words from `at` on for the type t
+unfoldable pub widthsOf : ℕ → ℕ → List ℕ
+widthsOf t at = tab (λ i. getD (getD widths i []) t 0) 8 at
+
+-- the widest values of the four words of item k
+unfoldable pub widestFour : List ℕ → ℕ → List ℕ
+widestFour w k = pick (ltb k (word w 15)) (15 ∷ 1 ∷ any ∷ longestSaid (word w (24 + 4 * k + 1)) ∷ []) (0 ∷ 0 ∷ 0 ∷ 0 ∷ [])
+
+-- none of the words from `at` on is over its bound
+unfoldable pub rowNarrow : List ℕ → ℕ → List ℕ → Bool
+rowNarrow w at most = every (λ j. leb (word w (at + j)) (getD most j 0)) (length most)
+
+-- none of the words 0 to 23, of the words of item k, of the words of all 16 items
+unfoldable pub headNarrow : List ℕ → Bool
+headNarrow w = pick (rowNarrow w 0 (widthsOf (word w 0) 0)) (pick (rowNarrow w 8 (widthsOf (word w 0) 8)) (rowNarrow w 16 (widthsOf (word w 0) 16)) false) false
+
+abbrev pub itemNarrow : List ℕ → ℕ → Bool
+itemNarrow w k = rowNarrow w (24 + 4 * k) (widestFour w k)
+
+unfoldable pub itemsNarrow : List ℕ → Bool
+itemsNarrow w = every (itemNarrow w) 16
 
 -- len octets from start on lie within n
 unfoldable pub inside : ℕ → ℕ → ℕ → Bool

@@ -4,17 +4,15 @@ ghost use Prim.Native.Nat.{_+_, _≤_, _<_, min};
 ghost use lib.ListN.{length};
 ghost use lib.Dec.{ltb};
 ghost use Rattle.base_layout.specs.Layout.{datagramBound};
-ghost use Rattle.codec_said.specs.Said.{word};
+ghost use Rattle.codec_said.specs.Said.{word, kindSaid, itemsSaid, pduSaid};
 ghost use Rattle.codec_encoding.specs.Write.{kindFault, restFault};
 ghost use Rattle.codec_verdict.specs.Length.{placed, headerSaid, formLength, lengthSaid};
-ghost use Rattle.codec_verdict.specs.Widths.{longestSaid, widestItem, noneTooWide, inside, fits};
+ghost use Rattle.codec_verdict.specs.Widths.{longestSaid, widthsOf, rowNarrow, headNarrow, itemNarrow, itemsNarrow, noneTooWide, inside, fits};
 ghost use Rattle.codec_verdict.specs.Judge.{itemsInside, faultIn, judgedOf};
 use base_numbers::Malformed;
 use base_numbers::Refusal;
 use base_numbers::Verdict;
-use codec_items::Item;
 use codec_pdu::Kind;
-use codec_pdu::Pdu;
 
 // Lengths are added up to one over the bound.
 const OVER: u64 = DATAGRAM_BOUND + 1;
@@ -22,34 +20,6 @@ const OVER: u64 = DATAGRAM_BOUND + 1;
 const DATAGRAM_BOUND: u64 = base_layout::DATAGRAM_BOUND as u64;
 
 const ANY: u64 = 18446744073709551615;
-
-// The widest value of each of the words 0 to 23, by the type: 0 where the type hasn't the word. There is no type 0.
-const WIDTHS: [[u64; 8]; 24] = [
-    [0, ANY, ANY, ANY, ANY, ANY, ANY, ANY], // type
-    [0, 1, 1, 0, 0, 1, 1, 0], // GTR
-    [0, 1, 1, 0, 0, 1, 1, 0], // TTR
-    [0, 1, 1, 1, 0, 1, 1, 1], // RID
-    [0, 65535, 65535, 65535, 65535, 65535, 65535, 65535], // TID
-    [0, 3, 0, 0, 0, 0, 0, 0], // version
-    [0, 1, 0, 0, 0, 0, 0, 0], // TIDnew
-    [0, 1, 0, 0, 0, 0, 0, 0], // U/P
-    [0, 3, 0, 0, 0, 0, 0, 0], // class
-    [0, 0, 0, 1, 0, 0, 0, 0], // Tve/Tok
-    [0, 0, 0, 0, 7, 0, 0, 0], // abort type
-    [0, 0, 0, 0, 255, 0, 0, 0], // abort reason
-    [0, 0, 0, 0, 0, 255, 255, 0], // packet number
-    [0, 0, 0, 0, 0, 0, 0, 255], // Nack count
-    [0, 0, 0, 0, 0, 0, 0, ANY], // start of the Nack list
-    [0, ANY, ANY, ANY, ANY, ANY, ANY, ANY], // number of items
-    [0, ANY, ANY, 0, 0, ANY, ANY, 0], // start of the user data
-    [0, ANY, ANY, ANY, ANY, ANY, ANY, ANY], // length of the user data
-    [0, 0, 0, 0, 0, 0, 0, 0], // 18 to 23 are zero
-    [0, 0, 0, 0, 0, 0, 0, 0],
-    [0, 0, 0, 0, 0, 0, 0, 0],
-    [0, 0, 0, 0, 0, 0, 0, 0],
-    [0, 0, 0, 0, 0, 0, 0, 0],
-    [0, 0, 0, 0, 0, 0, 0, 0],
-];
 
 // A sum up to 1,501: what is over 1,500 stays so, and none wraps.
 fn capped(a: u64, b: u64) -> u64
@@ -109,17 +79,120 @@ fn longest(form: u64) -> u64
     if form == 0 { 3 } else { 255 }
 }
 
-// The widest value of word j of the item k.
-fn widest_item(words: &[u64], k: usize, j: usize) -> u64
-    requires { ⌜ (88 ≤ length (now words)) × (k < 16) × (j < 4) ⌝ }
-    ensures { λ r. ⌜ r ≡ widestItem (now (words .entry)) k j ⌝ }
+// The widest values of words 0 to 7 by the type, 0 where the type hasn't the word: type, GTR, TTR, RID, TID, version, TIDnew, U/P. There is no type 0.
+fn first_widths(t: u64) -> [u64; 8]
+    requires { ⌜ t < 8 ⌝ }
+    ensures { λ r. ⌜ r ≡ widthsOf t 0 ⌝ }
 {
-    if (k as u64) < words[15] {
-        let four = [15, 1, ANY, longest(words[24 + 4 * k + 1])];
-        four[j]
-    } else {
-        0
+    match t {
+        1 => [ANY, 1, 1, 1, 65535, 3, 1, 1],
+        2 => [ANY, 1, 1, 1, 65535, 0, 0, 0],
+        3 => [ANY, 0, 0, 1, 65535, 0, 0, 0],
+        4 => [ANY, 0, 0, 0, 65535, 0, 0, 0],
+        5 => [ANY, 1, 1, 1, 65535, 0, 0, 0],
+        6 => [ANY, 1, 1, 1, 65535, 0, 0, 0],
+        7 => [ANY, 0, 0, 1, 65535, 0, 0, 0],
+        _ => [0; 8],
     }
+}
+
+// Of words 8 to 15: class, Tve/Tok, abort type, abort reason, packet number, Nack count, start of the Nack list, number of items.
+fn middle_widths(t: u64) -> [u64; 8]
+    requires { ⌜ t < 8 ⌝ }
+    ensures { λ r. ⌜ r ≡ widthsOf t 8 ⌝ }
+{
+    match t {
+        1 => [3, 0, 0, 0, 0, 0, 0, ANY],
+        2 => [0, 0, 0, 0, 0, 0, 0, ANY],
+        3 => [0, 1, 0, 0, 0, 0, 0, ANY],
+        4 => [0, 0, 7, 255, 0, 0, 0, ANY],
+        5 => [0, 0, 0, 0, 255, 0, 0, ANY],
+        6 => [0, 0, 0, 0, 255, 0, 0, ANY],
+        7 => [0, 0, 0, 0, 0, 255, ANY, ANY],
+        _ => [0; 8],
+    }
+}
+
+// Of words 16 to 23: start and length of the user data; the others are zero.
+fn last_widths(t: u64) -> [u64; 8]
+    requires { ⌜ t < 8 ⌝ }
+    ensures { λ r. ⌜ r ≡ widthsOf t 16 ⌝ }
+{
+    match t {
+        1 => [ANY, ANY, 0, 0, 0, 0, 0, 0],
+        2 => [ANY, ANY, 0, 0, 0, 0, 0, 0],
+        3 => [0, ANY, 0, 0, 0, 0, 0, 0],
+        4 => [0, ANY, 0, 0, 0, 0, 0, 0],
+        5 => [ANY, ANY, 0, 0, 0, 0, 0, 0],
+        6 => [ANY, ANY, 0, 0, 0, 0, 0, 0],
+        7 => [0, ANY, 0, 0, 0, 0, 0, 0],
+        _ => [0; 8],
+    }
+}
+
+// Whether none of the words from `at` on is over its bound.
+fn row_narrow(words: &[u64], at: usize, most: &[u64]) -> bool
+    requires { ⌜ at + length (now most) ≤ length (now words) ⌝ }
+    ensures { λ r. ⌜ r ≡ rowNarrow (now (words .entry)) at (now (most .entry)) ⌝ }
+{
+    let mut j = 0;
+    while j < most.len() {
+        if most[j] < words[at + j] {
+            return false;
+        }
+        j += 1;
+    }
+    true
+}
+
+// Whether none of the words 0 to 23 is too wide for its place.
+fn head_narrow(words: &[u64]) -> bool
+    requires { ⌜ (88 ≤ length (now words)) × (word (now words) 0 < 8) ⌝ }
+    ensures { λ r. ⌜ r ≡ headNarrow (now (words .entry)) ⌝ }
+{
+    let first = first_widths(words[0]);
+    let middle = middle_widths(words[0]);
+    let last = last_widths(words[0]);
+    if row_narrow(words, 0, &first) {
+        if row_narrow(words, 8, &middle) {
+            row_narrow(words, 16, &last)
+        } else {
+            false
+        }
+    } else {
+        false
+    }
+}
+
+// Whether none of the four words of the item k is too wide for its place; all are 0 where there is no item k.
+fn item_narrow(words: &[u64], k: usize) -> bool
+    requires { ⌜ (88 ≤ length (now words)) × (k < 16) ⌝ }
+    ensures { λ r. ⌜ r ≡ itemNarrow (now (words .entry)) k ⌝ }
+{
+    let at = 24 + 4 * k;
+    if (k as u64) < words[15] {
+        let most = [15, 1, ANY, longest(words[at + 1])];
+        row_narrow(words, at, &most)
+    } else {
+        let most = [0, 0, 0, 0];
+        row_narrow(words, at, &most)
+    }
+}
+
+// Whether no word of the 16 items is too wide for its place.
+fn items_narrow(words: &[u64]) -> bool
+    requires { ⌜ 88 ≤ length (now words) ⌝ }
+    ensures { λ r. ⌜ r ≡ itemsNarrow (now (words .entry)) ⌝ }
+{
+    let mut k = 0;
+    while k < 16 {
+        if item_narrow(words, k) {
+            k += 1;
+        } else {
+            return false;
+        }
+    }
+    true
 }
 
 // Whether no word is too wide for its place.
@@ -127,21 +200,11 @@ fn none_too_wide(words: &[u64]) -> bool
     requires { ⌜ (88 ≤ length (now words)) × (word (now words) 0 < 8) ⌝ }
     ensures { λ r. ⌜ r ≡ noneTooWide (now (words .entry)) ⌝ }
 {
-    // A constant array is set up where it is named: here once, not once a word.
-    let widths = WIDTHS;
-    let mut i = 0;
-    while i < 88 {
-        let most = if i < 24 {
-            widths[i][words[0] as usize]
-        } else {
-            widest_item(words, (i - 24) / 4, (i - 24) % 4)
-        };
-        if most < words[i] {
-            return false;
-        }
-        i += 1;
+    if head_narrow(words) {
+        items_narrow(words)
+    } else {
+        false
     }
-    true
 }
 
 // Whether len octets from start on lie within n.
@@ -197,15 +260,15 @@ fn kind_fault(kind: Kind) -> Verdict
 }
 
 // Whether the data of every item lies within n octets.
-fn items_inside(list: [Item; 16], count: usize, n: u64) -> bool
-    ensures { λ r. ⌜ r ≡ itemsInside n list count ⌝ }
+fn items_inside(words: &[u64], n: u64) -> bool
+    requires { ⌜ 88 ≤ length (now words) ⌝ }
+    ensures { λ r. ⌜ r ≡ itemsInside n (itemsSaid (now (words .entry))) (word (now (words .entry)) 15) ⌝ }
 {
-    let last = places(count as u64);
+    let last = places(words[15]);
     let mut k = 0;
     while k < last {
-        let it = list[k];
-        let here = lies_inside(n, it.start as u64, it.len as u64);
-        if here {
+        let at = 24 + 4 * k;
+        if lies_inside(n, words[at + 2], words[at + 3]) {
             k += 1;
         } else {
             return false;
@@ -215,15 +278,15 @@ fn items_inside(list: [Item; 16], count: usize, n: u64) -> bool
 }
 
 // D4 and D7.
-fn rest_fault(p: Pdu) -> Verdict
-    ensures { λ r. ⌜ r ≡ restFault p ⌝ }
+fn rest_fault(words: &[u64], kind: Kind) -> Verdict
+    requires { ⌜ (88 ≤ length (now words)) × (kind ≡ kindSaid (now words)) ⌝ }
+    ensures { λ r. ⌜ r ≡ restFault (pduSaid (now (words .entry))) ⌝ }
 {
-    let kind = p.kind;
-    if 16 < p.count {
+    if 16 < words[15] {
         return Verdict::Bad(Malformed::D4);
     }
     if codec_pdu::bare(kind) {
-        if p.len == 0 {
+        if words[17] == 0 {
             Verdict::Sound
         } else {
             Verdict::Bad(Malformed::D7)
@@ -233,18 +296,17 @@ fn rest_fault(p: Pdu) -> Verdict
     }
 }
 
-// D5, D6, D3, D4, D7 of a PDU whose items lie in n octets.
-fn fault_in(n: u64, p: Pdu) -> Verdict
-    ensures { λ r. ⌜ r ≡ faultIn n p ⌝ }
+// D5, D6, D3, D4, D7 of the PDU of this kind that the words say, whose items lie in n octets.
+fn fault_in(words: &[u64], kind: Kind, n: u64) -> Verdict
+    requires { ⌜ (88 ≤ length (now words)) × (kind ≡ kindSaid (now words)) ⌝ }
+    ensures { λ r. ⌜ r ≡ faultIn n (pduSaid (now (words .entry))) ⌝ }
 {
-    let kind = p.kind;
-    let list = p.list;
     let first = kind_fault(kind);
     match first {
         Verdict::Bad(d) => Verdict::Bad(d),
         Verdict::Sound => {
-            if items_inside(list, p.count, n) {
-                rest_fault(p)
+            if items_inside(words, n) {
+                rest_fault(words, kind)
             } else {
                 Verdict::Bad(Malformed::D3)
             }
@@ -252,28 +314,28 @@ fn fault_in(n: u64, p: Pdu) -> Verdict
     }
 }
 
-// The PDU that the words say, with its parts in `bytes` octets; or why it isn't written.
-pub fn judged_words(words: &[u64], bytes: usize) -> Pdu
+// The kind of the PDU that the words say, with its parts in `bytes` octets; or why it isn't written.
+pub fn judged_kind(words: &[u64], bytes: usize) -> Kind
     requires { ⌜ 88 ≤ length (now words) ⌝ }
-    ensures { λ r. ⌜ r ≡ judgedOf (now (words .entry)) bytes ⌝ }
+    ensures { λ r. ⌜ r ≡ judgedOf (now (words .entry)) bytes .kind ⌝ }
 {
     if words[0] == 0 {
-        return codec_pdu::blank(Kind::Wrong(Malformed::D2));
+        return Kind::Wrong(Malformed::D2);
     }
     if 7 < words[0] {
-        return codec_pdu::blank(Kind::Wrong(Malformed::D2));
+        return Kind::Wrong(Malformed::D2);
     }
     if over_long(words) {
-        return codec_pdu::blank(Kind::Refused(Refusal::WrongLength));
+        return Kind::Refused(Refusal::WrongLength);
     }
     if fit(words, bytes as u64) {
-        let p = codec_said::said(words);
-        let fault = fault_in(bytes as u64, p);
+        let kind = codec_said::kind_said(words);
+        let fault = fault_in(words, kind, bytes as u64);
         match fault {
-            Verdict::Bad(d) => codec_pdu::blank(Kind::Wrong(d)),
-            Verdict::Sound => p,
+            Verdict::Bad(d) => Kind::Wrong(d),
+            Verdict::Sound => kind,
         }
     } else {
-        codec_pdu::blank(Kind::Wrong(Malformed::D1))
+        Kind::Wrong(Malformed::D1)
     }
 }

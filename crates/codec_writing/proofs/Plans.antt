@@ -1,6 +1,6 @@
 -- What a plan allows, and what writing leaves by it. Assumes nothing.
 use Prim.Native.Nat.{ℕ, _≤_}
-use mathlib.Core.Path.{_≡_, refl, sym, ap, _∙_}
+use mathlib.Core.Path.{_≡_, refl, sym}
 use mathlib.Core.List.{List}
 use mathlib.Core.Bool.{Bool, true, false}
 use lib.ListN.{length}
@@ -13,21 +13,36 @@ use Rattle.codec_pdu.specs.Pdu.{soundOf, blankPdu}
 use Rattle.codec_pdu.specs.declared.Kind.{Kind}
 use Rattle.codec_pdu.specs.declared.Kind.the-variants.{Invoke, Result, Ack, Abort, SegInvoke, SegResult, Nack, Wrong, Refused}
 use Rattle.codec_pdu.specs.declared.Pdu.{Pdu}
+use Rattle.codec_said.specs.Said.{pduSaid}
 use Rattle.codec_encoding.specs.Write.{octetsOf}
 use Rattle.codec_verdict.specs.Judge.{judgedOf, Writable}
+use Rattle.codec_verdict.proofs.Passed.{passed, given}
 use Rattle.codec_verdict.proofs.Accepted.{accepted}
 use Rattle.codec_writing.specs.Writing.{planOf, plan, answerOf, done, writtenAnswer, outputAfter, written}
 use Rattle.codec_writing.specs.declared.Written.{Written}
 
--- a PDU that is planned can be written, and the output has room for any
-pub plan-writable : (w s : List ℕ) (room : ℕ) (p : Pdu) → p ≡ planOf w (length s) room → soundOf (p .kind) ≡ true → Writable s p × (1500 ≤ room)
+-- words that give a PDU: it is the one that they say, it can be written, and the output has room for any
+pub record Planned (w s : List ℕ) (room : ℕ) : Type 0 where
+  pub said : planOf w (length s) room ≡ pduSaid w
+  pub writable : Writable s (pduSaid w)
+  pub whole : 88 ≤ length w
+  pub room-enough : 1500 ≤ room
+
+pub planned : (w s : List ℕ) (room : ℕ) → soundOf (planOf w (length s) room .kind) ≡ true → Planned w s room
 unfolding planOf soundOf blankPdu
-plan-writable w s room p e t = go (ltb (length w) 88) (ltb room 1500) refl e
+planned w s room t = go (ltb (length w) 88) refl (ltb room 1500) refl t
   where
-    go : (a b : Bool) → ltb room 1500 ≡ b → p ≡ pick a (blankPdu (Refused WrongSize)) (pick b (blankPdu (Refused WrongSize)) (judgedOf w (length s))) → Writable s p × (1500 ≤ room)
-    go true b h q = true-false (sym t ∙ ap (λ (x : Pdu). soundOf (x .kind)) q)
-    go false true h q = true-false (sym t ∙ ap (λ (x : Pdu). soundOf (x .kind)) q)
-    go false false h q = (accepted w s p (sym q) t, ltb-false room 1500 h)
+    go : (a : Bool) → ltb (length w) 88 ≡ a → (b : Bool) → ltb room 1500 ≡ b → soundOf (pick a (blankPdu (Refused WrongSize)) (pick b (blankPdu (Refused WrongSize)) (judgedOf w (length s))) .kind) ≡ true → Planned w s room
+    go true e b h q = true-false (sym q)
+    go false e true h q = true-false (sym q)
+    go false e false h q =
+        let is : judgedOf w (length s) ≡ pduSaid w = given w (length s) (passed w (length s) q) in
+        record {
+          said = rw (e, h) is;
+          writable = accepted w s (pduSaid w) is (rw is at q);
+          whole = ltb-false (length w) 88 e;
+          room-enough = ltb-false room 1500 h;
+        }
 
 -- where there is no PDU the length doesn't matter
 refused-same : (k : Kind) (a b : ℕ) → soundOf k ≡ false → answerOf a k ≡ answerOf b k

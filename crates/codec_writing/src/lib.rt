@@ -1,10 +1,17 @@
 // Writing a PDU from the words that the C interface has for it.
 ghost use mathlib.Core.Path.{_≡_};
+ghost use mathlib.Core.Bool.{false};
+ghost use Prim.Native.Nat.{_+_, _≤_};
+ghost use lib.ListN.{length, take};
+ghost use Rattle.base_layout.specs.Layout.{datagramBound};
+ghost use Rattle.base_lists.specs.Seq.{put};
+ghost use Rattle.codec_encoding.specs.Write.{itemsOctets, octetsOf, FitItems};
+ghost use Rattle.codec_said.specs.Said.{kindSaid, itemsSaid, pduSaid};
+ghost use Rattle.codec_verdict.specs.Judge.{Writable};
 ghost use Rattle.codec_writing.specs.Writing.{planOf, answerOf, done, written};
 use base_numbers::Malformed;
 use base_numbers::Refusal;
 use codec_pdu::Kind;
-use codec_pdu::Pdu;
 
 // The length of the PDU that was written; or why none was.
 pub enum Written {
@@ -13,17 +20,48 @@ pub enum Written {
     Refused(Refusal),
 }
 
-// The PDU to be written, with its parts in `bytes` octets and room for `room`; or why it isn't.
-fn writing_plan(fields: &[u64], bytes: usize, room: usize) -> Pdu
-    ensures { λ r. ⌜ r ≡ planOf (now (fields .entry)) bytes room ⌝ }
+// The kind of the PDU to be written, with its parts in `bytes` octets and room for `room`; or why it isn't.
+fn planned_kind(fields: &[u64], bytes: usize, room: usize) -> Kind
+    ensures { λ r. ⌜ r ≡ planOf (now (fields .entry)) bytes room .kind ⌝ }
 {
     if fields.len() < 88 {
-        return codec_pdu::blank(Kind::Refused(Refusal::WrongSize));
+        return Kind::Refused(Refusal::WrongSize);
     }
     if room < base_layout::DATAGRAM_BOUND {
-        return codec_pdu::blank(Kind::Refused(Refusal::WrongSize));
+        return Kind::Refused(Refusal::WrongSize);
     }
-    codec_verdict::judged_words(fields, bytes)
+    codec_verdict::judged_kind(fields, bytes)
+}
+
+// Stores the first n items that the words say from `at` on, the last with CON clear; the place after them.
+fn put_items(out: &mut [u8], at: usize, src: &[u8], words: &[u64], n: usize) -> usize
+    requires { ⌜ (88 ≤ length (now words)) × (n ≤ 16) ⌝ }
+    requires { ⌜ FitItems (now src) (take n (itemsSaid (now words))) ⌝ }
+    requires { ⌜ at + length (itemsOctets (now src) false (take n (itemsSaid (now words)))) ≤ length (now out) ⌝ }
+    ensures { λ r. ⌜ (r ≡ at + length (itemsOctets (now (src .entry)) false (take n (itemsSaid (now (words .entry)))))) × (now (out .exit) ≡ put (now (out .entry)) at (itemsOctets (now (src .entry)) false (take n (itemsSaid (now (words .entry)))))) ⌝ }
+{
+    let mut next = at;
+    let mut k = 0;
+    while k < n {
+        let it = codec_said::item_said(words, k);
+        next = codec_encoding::put_item(&mut *out, next, src, it, k + 1 < n);
+        k += 1;
+    }
+    next
+}
+
+// Writes the PDU of this kind that the words say; its length.
+fn put_said(out: &mut [u8], src: &[u8], words: &[u64], kind: Kind) -> usize
+    requires { ⌜ (88 ≤ length (now words)) × (kind ≡ kindSaid (now words)) ⌝ }
+    requires { ⌜ Writable (now src) (pduSaid (now words)) × (datagramBound ≤ length (now out)) ⌝ }
+    ensures { λ r. ⌜ (r ≡ length (octetsOf (now (src .entry)) (pduSaid (now (words .entry))))) × (now (out .exit) ≡ put (now (out .entry)) 0 (octetsOf (now (src .entry)) (pduSaid (now (words .entry))))) ⌝ }
+{
+    let n = words[15] as usize;
+    let len = words[17] as usize;
+    let items = codec_encoding::put_header(&mut *out, src, 0 < n, kind, (words[4] % 65536) as u16);
+    let user = put_items(&mut *out, items, src, words, n);
+    base_lists::copy(out, user, src, words[16] as usize, len);
+    user + len
 }
 
 // What is given back for a kind and the length of its PDU.
@@ -47,10 +85,9 @@ fn answer(kind: Kind, len: usize) -> Written
 pub fn write(fields: &[u64], bytes: &[u8], out: &mut [u8]) -> Written
     ensures { λ r. ⌜ done r (now (out .exit)) ≡ written (now (fields .entry)) (now (bytes .entry)) (now (out .entry)) ⌝ }
 {
-    let p = writing_plan(fields, bytes.len(), out.len());
-    let kind = p.kind;
+    let kind = planned_kind(fields, bytes.len(), out.len());
     if codec_pdu::sound(kind) {
-        let len = codec_encoding::put_pdu(out, bytes, p);
+        let len = put_said(out, bytes, fields, kind);
         answer(kind, len)
     } else {
         answer(kind, 0)

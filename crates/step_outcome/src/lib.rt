@@ -4,7 +4,6 @@ ghost use Prim.Native.Nat.{_+_, _*_, _≤_, _<_};
 ghost use lib.ListN.{length};
 ghost use Rattle.base_layout.specs.Layout.{outputLeast};
 ghost use Rattle.base_lists.specs.Seq.{put};
-ghost use Rattle.step_sending.specs.Octets.{FitSend, octetsSent};
 ghost use Rattle.step_outcome.specs.Carry.{isNothing, CellFits, cellWritten, FitOut, octetsOut, Ready, lent, done, carriedOut};
 use base_numbers::Refusal;
 use row_columns::Send;
@@ -57,16 +56,6 @@ fn is_nothing(send: Send) -> bool
     }
 }
 
-// The PDU goes straight from its source to the output's start.
-fn write_pdu(out: &mut [u8], src: &[u8], send: Send, by: Sender) -> usize
-    requires { ⌜ FitSend (now src) send by ⌝ }
-    requires { ⌜ outputLeast ≤ length (now out) ⌝ }
-    ensures { λ r. ⌜ (r ≡ length (octetsSent (now (src .entry)) send by)) × (now (out .exit) ≡ put (now (out .entry)) 0 (octetsSent (now (src .entry)) send by)) ⌝ }
-{
-    let p = step_sending::pdu_of(send, by);
-    codec_encoding::put_pdu(out, src, p)
-}
-
 // At most one PDU, from where its parts lie.
 fn send_pdu(
     out: &mut [u8],
@@ -84,10 +73,10 @@ fn send_pdu(
         return 0;
     }
     match step_sending::source_of(send) {
-        Source::Nothing => write_pdu(out, given, send, by),
-        Source::Given => write_pdu(out, given, send, by),
-        Source::Cell => write_pdu(out, store, send, by),
-        Source::Table => write_pdu(out, table, send, by),
+        Source::Nothing => step_sending::put_sent(out, given, send, by),
+        Source::Given => step_sending::put_sent(out, given, send, by),
+        Source::Cell => step_sending::put_sent(out, store, send, by),
+        Source::Table => step_sending::put_sent(out, table, send, by),
     }
 }
 

@@ -41,7 +41,7 @@ short-enough : (long : Bool) (len : ℕ) → ltb 3 len ≡ long → len ≤ exit
 short-enough true len e h = omega arith
 short-enough false len e h = ltb-false 3 len e
 
-exit-fits : (s : List ℕ) (by : Sender) → FitSend s (LastAck false) by → FitItem s (exitItem by)
+pub exit-fits : (s : List ℕ) (by : Sender) → FitSend s (LastAck false) by → FitItem s (exitItem by)
 unfolding FitSend
 exit-fits s by f = record { identity-fits = omega arith; len-fits = short-enough (ltb 3 (by .«exit_len»)) (by .«exit_len») refl (f .1); inside = f .0 }
 

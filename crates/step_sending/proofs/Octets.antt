@@ -27,7 +27,7 @@ picked : {A B : Type 0} (f : A → B) (b : Bool) (x y : A) (u v : B) → f x ≡
 picked f true x y u v d e = d
 picked f false x y u v d e = e
 
-exit-form : (long : Bool) (len : ℕ) (body : List ℕ) → formOf long 8 len body ≡ pick long (0x0C ∷ len ∷ body) ((0x08 + len) ∷ body)
+pub exit-form : (long : Bool) (len : ℕ) (body : List ℕ) → formOf long 8 len body ≡ pick long (0x0C ∷ len ∷ body) ((0x08 + len) ∷ body)
 exit-form true len body = refl
 exit-form false len body = refl
 
@@ -63,7 +63,7 @@ octets-are s (Result true) by f = refl
 octets-are s (Result false) by f = refl
 octets-are s (Abort kind reason) by f = refl
 
-exit-length : (long : Bool) (len : ℕ) (body : List ℕ) → length body ≡ len → len ≤ exitBound
+pub exit-length : (long : Bool) (len : ℕ) (body : List ℕ) → length body ≡ len → len ≤ exitBound
     → length (pick long (0x0C ∷ len ∷ body) ((0x08 + len) ∷ body)) ≤ 130
 exit-length true len body e h = omega arith
 exit-length false len body e h = omega arith

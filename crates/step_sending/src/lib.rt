@@ -1,11 +1,14 @@
-// The PDU to send, from its description and its sender, and where its parts lie.
+// The PDU to send goes straight to the output, from its description and its sender; and where its parts lie.
 ghost use mathlib.Core.Path.{_≡_};
-ghost use Rattle.step_sending.specs.Sending.{tidOf, plainPdu, exitItems, invokeKind, ackPdu, lastAckPdu, sentPdu, messageSource, sourceOf};
-use base_numbers::Malformed;
-use base_numbers::Verdict;
+ghost use mathlib.Core.List.{[], _∷_};
+ghost use Prim.Native.Nat.{_+_, _≤_};
+ghost use lib.ListN.{length};
+ghost use Rattle.base_layout.specs.Layout.{exitBound, outputLeast};
+ghost use Rattle.base_lists.specs.Seq.{put};
+ghost use Rattle.row_columns.specs.declared.Send.the-variants.{Invoke, LastAck, Result};
+ghost use Rattle.step_sending.specs.Sending.{tidOf, messageSource, sourceOf};
+ghost use Rattle.step_sending.specs.Octets.{withTid, exitOctets, octetsSent, FitSend};
 use codec_items::Item;
-use codec_pdu::Kind;
-use codec_pdu::Pdu;
 use row_columns::Send;
 use table_record::Role;
 
@@ -36,105 +39,92 @@ fn tid_of(by: Sender) -> u16
     table_record::send_tid(role, by.tid % base_layout::TID_COUNT).0
 }
 
-fn plain(kind: Kind, by: Sender, start: usize, len: usize) -> Pdu
-    ensures { λ r. ⌜ r ≡ plainPdu kind by start len ⌝ }
+// The first octet and the TID go to the output's start; the place after them.
+fn put_head(out: &mut [u8], first: u8, by: Sender) -> usize
+    requires { ⌜ 3 ≤ length (now out) ⌝ }
+    ensures { λ r. ⌜ (r ≡ 3) × (now (out .exit) ≡ put (now (out .entry)) 0 (withTid by first [])) ⌝ }
 {
-    let none = codec_items::none(Verdict::Sound, 0);
-    let list = none.list;
     let tid = tid_of(by);
-    Pdu {
-        kind: kind,
-        tid: tid,
-        count: 0,
-        list: list,
-        start: start,
-        len: len,
-    }
+    out[0] = first;
+    out[1] = (tid / 256) as u8;
+    out[2] = (tid % 256) as u8;
+    3
 }
 
-fn exit_items(by: Sender) -> [Item; 16]
-    ensures { λ r. ⌜ r ≡ exitItems by ⌝ }
+fn put_invoke(out: &mut [u8], src: &[u8], again: bool, by: Sender) -> usize
+    requires { ⌜ FitSend (now src) (Invoke again) by ⌝ }
+    requires { ⌜ outputLeast ≤ length (now out) ⌝ }
+    ensures { λ r. ⌜ (r ≡ length (octetsSent (now (src .entry)) (Invoke again) by)) × (now (out .exit) ≡ put (now (out .entry)) 0 (octetsSent (now (src .entry)) (Invoke again) by)) ⌝ }
 {
-    let none = codec_items::none(Verdict::Sound, 0);
-    let mut list = none.list;
-    list[0] = Item {
+    put_head(&mut *out, 0x0E + base_lists::bit(again), by);
+    out[3] = base_lists::bit(by.user_ack) * 16 + by.class;
+    base_lists::copy(out, 4, src, by.start, by.len);
+    4 + by.len
+}
+
+fn put_result(out: &mut [u8], src: &[u8], again: bool, by: Sender) -> usize
+    requires { ⌜ FitSend (now src) (Result again) by ⌝ }
+    requires { ⌜ outputLeast ≤ length (now out) ⌝ }
+    ensures { λ r. ⌜ (r ≡ length (octetsSent (now (src .entry)) (Result again) by)) × (now (out .exit) ≡ put (now (out .entry)) 0 (octetsSent (now (src .entry)) (Result again) by)) ⌝ }
+{
+    put_head(&mut *out, 0x16 + base_lists::bit(again), by);
+    base_lists::copy(out, 3, src, by.start, by.len);
+    3 + by.len
+}
+
+// Exit information as Info item 1, after the TID; the place after it.
+fn put_exit(out: &mut [u8], src: &[u8], by: Sender) -> usize
+    requires { ⌜ (by .«exit_start» + by .«exit_len» ≤ length (now src)) × (by .«exit_len» ≤ exitBound) ⌝ }
+    requires { ⌜ outputLeast ≤ length (now out) ⌝ }
+    ensures { λ r. ⌜ (r ≡ 3 + length (exitOctets (now (src .entry)) by)) × (now (out .exit) ≡ put (now (out .entry)) 3 (exitOctets (now (src .entry)) by)) ⌝ }
+{
+    let it = Item {
         identity: 1,
         long: 3 < by.exit_len,
         start: by.exit_start,
         len: by.exit_len,
     };
-    list
+    codec_encoding::put_item(out, 3, src, it, false)
 }
 
-fn invoke(rid: bool, by: Sender) -> Kind
-    ensures { λ r. ⌜ r ≡ invokeKind rid by ⌝ }
+fn put_last_ack(out: &mut [u8], src: &[u8], again: bool, by: Sender) -> usize
+    requires { ⌜ FitSend (now src) (LastAck again) by ⌝ }
+    requires { ⌜ outputLeast ≤ length (now out) ⌝ }
+    ensures { λ r. ⌜ (r ≡ length (octetsSent (now (src .entry)) (LastAck again) by)) × (now (out .exit) ≡ put (now (out .entry)) 0 (octetsSent (now (src .entry)) (LastAck again) by)) ⌝ }
 {
-    Kind::Invoke {
-        gtr: true,
-        ttr: true,
-        rid: rid,
-        version: 0,
-        tidnew: false,
-        up: by.user_ack,
-        class: by.class,
-    }
-}
-
-fn ack(tve: bool, rid: bool, by: Sender) -> Pdu
-    ensures { λ r. ⌜ r ≡ ackPdu tve rid by ⌝ }
-{
-    plain(Kind::Ack { tve: tve, rid: rid }, by, 0, 0)
-}
-
-fn last_ack(again: bool, by: Sender) -> Pdu
-    ensures { λ r. ⌜ r ≡ lastAckPdu again by ⌝ }
-{
+    let rid = base_lists::bit(again);
     if by.exit_len == 0 {
-        return ack(false, again, by);
-    }
-    let list = exit_items(by);
-    let tid = tid_of(by);
-    Pdu {
-        kind: Kind::Ack {
-            tve: false,
-            rid: again,
-        },
-        tid: tid,
-        count: 1,
-        list: list,
-        start: 0,
-        len: 0,
+        put_head(out, 0x18 + rid, by)
+    } else {
+        put_head(&mut *out, 0x98 + rid, by);
+        put_exit(out, src, by)
     }
 }
 
-pub fn pdu_of(send: Send, by: Sender) -> Pdu
-    ensures { λ r. ⌜ r ≡ sentPdu send by ⌝ }
+fn put_abort(out: &mut [u8], abort_type: u8, reason: u8, by: Sender) -> usize
+    requires { ⌜ («abort_type» ≤ 1) × (outputLeast ≤ length (now out)) ⌝ }
+    ensures { λ r. ⌜ (r ≡ 4) × (now (out .exit) ≡ put (now (out .entry)) 0 (withTid by (0x20 + «abort_type») (reason ∷ []))) ⌝ }
+{
+    put_head(&mut *out, 0x20 + abort_type, by);
+    out[3] = reason;
+    4
+}
+
+// The PDU goes straight from its source to the output's start; its length.
+pub fn put_sent(out: &mut [u8], src: &[u8], send: Send, by: Sender) -> usize
+    requires { ⌜ FitSend (now src) send by ⌝ }
+    requires { ⌜ outputLeast ≤ length (now out) ⌝ }
+    ensures { λ r. ⌜ (r ≡ length (octetsSent (now (src .entry)) send by)) × (now (out .exit) ≡ put (now (out .entry)) 0 (octetsSent (now (src .entry)) send by)) ⌝ }
 {
     match send {
-        Send::Nothing => codec_pdu::blank(Kind::Wrong(Malformed::D2)),
-        Send::Invoke(again) => {
-            let kind = invoke(again, by);
-            plain(kind, by, by.start, by.len)
-        }
-        Send::Tidok(again) => ack(true, again, by),
-        Send::LastAck(again) => last_ack(again, by),
-        Send::HoldOn(again) => ack(false, again, by),
-        Send::Tidve(again) => ack(true, again, by),
-        Send::Result(again) => {
-            let kind = Kind::Result {
-                gtr: true,
-                ttr: true,
-                rid: again,
-            };
-            plain(kind, by, by.start, by.len)
-        }
-        Send::Abort(abort_type, reason) => {
-            let kind = Kind::Abort {
-                abort_type: abort_type,
-                reason: reason,
-            };
-            plain(kind, by, 0, 0)
-        }
+        Send::Nothing => 0,
+        Send::Invoke(again) => put_invoke(out, src, again, by),
+        Send::Tidok(again) => put_head(out, 0x1C + base_lists::bit(again), by),
+        Send::LastAck(again) => put_last_ack(out, src, again, by),
+        Send::HoldOn(again) => put_head(out, 0x18 + base_lists::bit(again), by),
+        Send::Tidve(again) => put_head(out, 0x1C + base_lists::bit(again), by),
+        Send::Result(again) => put_result(out, src, again, by),
+        Send::Abort(abort_type, reason) => put_abort(out, abort_type, reason, by),
     }
 }
 
