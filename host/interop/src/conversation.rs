@@ -146,7 +146,7 @@ mod tests {
         talk.answer(name).unwrap();
         assert_eq!(
             talk.answer(name).unwrap_err(),
-            "peer 0: the call was refused: the record's state doesn't allow the call (number 9)"
+            "peer 0: the call was refused: the record's state doesn't allow the call, or it isn't due (number 9)"
         );
         let seen: Vec<_> = talk.take_seen().into_iter().map(|seen| (seen.ours, seen.pdu)).collect();
         let theirs = [(false, vec![0, 9]), (false, vec![0x16, 0x80, 5, b'!'])];

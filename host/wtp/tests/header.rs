@@ -91,7 +91,7 @@ fn enumerators() -> BTreeMap<String, usize> {
 #[test]
 fn every_function_has_the_parameters_of_the_header() {
     let in_c = declared_in_c();
-    assert_eq!(in_c.len(), 12);
+    assert_eq!(in_c.len(), 14);
     assert_eq!(in_c, declared_in_rust());
 }
 
@@ -110,6 +110,7 @@ fn the_sizes_are_those_of_the_header() {
         ("WTP_SETTINGS", ffi::SETTINGS),
         ("WTP_FIELDS", ffi::FIELDS),
         ("WTP_PART", ffi::PART),
+        ("WTP_DUE", ffi::DUE),
         ("WTP_CELL", ffi::CELL),
         ("WTP_SENDING", ffi::SENDING),
         ("WTP_OUTPUT", ffi::OUTPUT),

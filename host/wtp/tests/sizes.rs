@@ -1,6 +1,6 @@
-//! Slices of the codec's calls that are one element too short: number 1, whatever else is wrong, and nothing changes.
+//! Slices that are one element too short: number 1, whatever else is wrong, and nothing changes. (The engine's are in refusals.rs.)
 
-use wtp::ffi::{self, ANSWER, FIELDS, OUTPUT, PART};
+use wtp::ffi::{self, ANSWER, DUE, FIELDS, OUTPUT, PART, SETTINGS};
 
 const WRONG_SIZE: u64 = 1;
 const INVOKE: [u8; 4] = [0x0E, 0, 5, 2];
@@ -19,6 +19,21 @@ fn too_few_words_for_a_part() {
     assert_eq!(ffi::separate(&INVOKE, 0, &mut part[1..]), WRONG_SIZE);
     assert_eq!(part, [7; PART]);
     assert_eq!(ffi::separate(&INVOKE, 0, &mut part), 0);
+}
+
+#[test]
+fn too_few_words_for_a_deadline_or_another_size_of_the_table() {
+    let mut settings = [0; SETTINGS];
+    settings[2..22].fill(9);
+    let mut table = [7; 800];
+    assert_eq!(ffi::fresh(&mut table, &settings, 0), 0);
+    let mut due = [7; DUE + 1];
+    assert_eq!(ffi::deadline(&table, &mut due[..DUE - 1]), WRONG_SIZE);
+    assert_eq!(ffi::deadline(&table[1..], &mut due), WRONG_SIZE);
+    assert_eq!(ffi::deadline(&[], &mut due), WRONG_SIZE);
+    assert_eq!(due, [7; DUE + 1]);
+    assert_eq!(ffi::deadline(&table, &mut due), 0);
+    assert_eq!(due, [0, 0, 0, 0, 0, 7]);
 }
 
 /// Whether a call with this output and this answer is refused for its sizes and leaves both.
