@@ -3,13 +3,14 @@
 use crate::calls::{Kind, Sizes};
 use kit::layout;
 use kit::Random;
-use wtp::ffi::{ANSWER, FIELDS, OUTPUT, PART, SENDING};
+use wtp::ffi::{ANSWER, DUE, FIELDS, OUTPUT, PART, SENDING};
 
 /// The sizes that the call asks for, with an output that may be longer.
 pub fn right(random: &mut Random, kind: Kind, records: usize) -> Sizes {
     let (out, words) = match kind {
         Kind::Read => (OUTPUT, FIELDS),
         Kind::Separate { .. } => (OUTPUT, PART),
+        Kind::Deadline => (OUTPUT, DUE),
         Kind::Write | Kind::Join => (OUTPUT, ANSWER),
         _ => (random.of(&[SENDING, OUTPUT]), ANSWER),
     };
@@ -22,6 +23,7 @@ pub fn change(random: &mut Random, kind: Kind, sizes: &mut Sizes) {
         Kind::Read | Kind::Separate { .. } => 3,
         Kind::Write | Kind::Join => 2 + random.below(2),
         Kind::Fresh { .. } => 0,
+        Kind::Deadline => random.of(&[0, 3]),
         _ => random.below(6),
     };
     match choice {
