@@ -96,7 +96,7 @@ enum {
 
 /* Words of a deadline; all 0 where no record has one. */
 enum {
-    WTP_DUE_ANY = 0, /* 1 */
+    WTP_DUE_ANY = 0, /* 1 where a record has a deadline */
     WTP_DUE_AT,      /* the earliest deadline, in milliseconds */
     WTP_DUE_ROLE, WTP_DUE_PEER, WTP_DUE_TID /* its record, for wtp_fire */
 };
