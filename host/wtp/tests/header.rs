@@ -121,6 +121,12 @@ fn the_sizes_are_those_of_the_header() {
 }
 
 #[test]
+fn the_words_of_a_deadline_are_in_the_order_in_which_the_wrapper_reads_them() {
+    let words = ["WTP_DUE_ANY", "WTP_DUE_AT", "WTP_DUE_ROLE", "WTP_DUE_PEER", "WTP_DUE_TID"];
+    assert!(words.iter().map(|name| value(name)).eq(0..ffi::DUE));
+}
+
+#[test]
 fn the_words_of_a_pdu_are_those_of_the_header() {
     let words = [
         ("WTP_TYPE", word::TYPE),
