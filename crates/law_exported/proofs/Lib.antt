@@ -1,3 +1,4 @@
 pub mod Contracts
 pub mod OneOutcome
 pub mod Exported
+pub mod InTwo
