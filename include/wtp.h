@@ -26,7 +26,7 @@ extern "C" {
 #define WTP_TID_IN_USE 6     /* the next TID is that of a live initiator record */
 #define WTP_TABLE_FULL 7     /* class 1 or 2 requested and no record is free */
 #define WTP_NO_RECORD 8      /* no live record of that role, peer and TID */
-#define WTP_NOT_ALLOWED 9    /* the record's state doesn't allow the call */
+#define WTP_NOT_ALLOWED 9    /* the record's state doesn't allow the call; wtp_fire: the record isn't due */
 #define WTP_WRONG_SETTING 10 /* a setting or the first TID is out of range */
 #define WTP_WRONG_LENGTH 11  /* a length outside 1 to 1,500, a datagram that can't be separated, no PDU to join or no such part */
 #define WTP_D1 101           /* the fixed header is cut short; in writing, a value too wide for its place */
@@ -42,9 +42,10 @@ extern "C" {
 #define WTP_FIELDS 88   /* words of a PDU */
 #define WTP_ANSWER 32   /* words of an answer, at least */
 #define WTP_PART 3      /* words of a part */
+#define WTP_DUE 5       /* words of a deadline, at least */
 #define WTP_CELL 1024   /* octets of the store for each record of the table; data is as long at most */
 #define WTP_EXIT 128    /* octets of exit information, at most; none is exit information of length 0 */
-#define WTP_SENDING 1028 /* octets of the output that the engine's six calls ask for, at least */
+#define WTP_SENDING 1028 /* octets of the output that the engine's seven calls ask for, at least */
 #define WTP_OUTPUT 1500 /* octets of the output that wtp_write and wtp_join ask for, at least */
 
 /* Roles. */
@@ -76,10 +77,10 @@ enum {
     WTP_SENT = 0,       /* octets at the start of the output that are to be sent, 0 none */
     WTP_INDICATIONS,    /* 0 to 2 */
     WTP_GIVEN_TID,      /* wtp_request: the TID given to the request */
-    WTP_FIRED,          /* wtp_timer: 1 a record was fired, 0 none was due */
+    WTP_FIRED,          /* wtp_timer, wtp_fire: 1 a record was fired; 0 none was due */
     WTP_FIRST = 4,      /* the first indication, 12 words, 0 where there is none */
     WTP_SECOND = 16,    /* the second indication */
-    WTP_FIRED_ROLE = 28, /* wtp_timer: the record that was fired, and so where the PDU goes */
+    WTP_FIRED_ROLE = 28, /* wtp_timer, wtp_fire: the record that was fired, and so where the PDU goes */
     WTP_FIRED_PEER,
     WTP_FIRED_TID
 };
@@ -91,6 +92,13 @@ enum {
     WTP_SHOWN_CLASS, WTP_SHOWN_UP,                 /* an Invoke, else 0 */
     WTP_SHOWN_ABORT_TYPE, WTP_SHOWN_REASON,        /* an abort, else 0 */
     WTP_SHOWN_SOURCE, WTP_SHOWN_START, WTP_SHOWN_LENGTH /* its data; all 0 where nothing carries data */
+};
+
+/* Words of a deadline; all 0 where no record has one. */
+enum {
+    WTP_DUE_ANY = 0, /* 1 where a record has a deadline */
+    WTP_DUE_AT,      /* the earliest deadline, in milliseconds */
+    WTP_DUE_ROLE, WTP_DUE_PEER, WTP_DUE_TID /* its record, for wtp_fire */
 };
 
 /* Words of a PDU. */
@@ -110,11 +118,11 @@ uint64_t wtp_table_bytes(uint64_t records);
  * 1: not the size of a table for 1 to 48 records; 10: not 32 words, or one of them or `first_tid` out of range. */
 uint64_t wtp_fresh(uint8_t *table, size_t table_len, const uint64_t *settings, size_t settings_len, uint64_t first_tid);
 
-/* The engine's six calls share their first parameters. `table` is one that wtp_fresh made, `store` has 1,024 octets for each of its
+/* The engine's seven calls share their first parameters. `table` is one that wtp_fresh made, `store` has 1,024 octets for each of its
  * records, `out` at least 1,028 octets and `answer` at least 32 words. Between two calls all four are the caller's, to keep or to
  * copy: the engine has no other memory. `now` is in milliseconds. An accepted call stores it, writes at most one PDU at the start
  * of `out` (for the peer that the call, or the fired record, names) and the first 32 words of `answer`. Each call gives the lowest
- * number that applies; 1 (a size, a table that isn't well formed) and 2 (the time) apply to all six. */
+ * number that applies; 1 (a size, a table that isn't well formed) and 2 (the time) apply to all seven. */
 
 /* Requests a transaction of class `cls` with `peer`: sends an Invoke with `data`, with the U/P flag where `user_ack` isn't 0, under
  * the next TID, which the answer gives. Class 0 ends with it; class 1 and 2 open an initiator record, which goes on until a
@@ -150,6 +158,7 @@ uint64_t wtp_receive(uint8_t *table, size_t table_len, uint8_t *store, size_t st
                      uint64_t *answer, size_t answer_len, uint64_t now, uint64_t peer, const uint8_t *pdu, size_t pdu_len);
 
 /* Fires the due record with the earliest deadline, the lowest place on ties, or says that none is due: call again until then.
+ * Where a record is due it does what wtp_deadline and then wtp_fire of the record that it told do, at the same time.
  * 1, 2. */
 uint64_t wtp_timer(uint8_t *table, size_t table_len, uint8_t *store, size_t store_len, uint8_t *out, size_t out_len,
                    uint64_t *answer, size_t answer_len, uint64_t now);
@@ -160,6 +169,16 @@ uint64_t wtp_timer(uint8_t *table, size_t table_len, uint8_t *store, size_t stor
  * 1: fewer than 32 words, or `out` is shorter than the data; 11: k over 1, or data that isn't there whole. */
 uint64_t wtp_data(const uint8_t *datagram, size_t datagram_len, const uint8_t *store, size_t store_len,
                   const uint64_t *answer, size_t answer_len, uint64_t k, uint8_t *out, size_t out_len);
+
+/* Tells the earliest deadline of a live record and whose it is, the lowest place on ties, in the first 5 words of `due`, so that
+ * the caller can sleep until then. It takes no time, stores none and changes nothing else; the deadline may lie in the past.
+ * 1: not the size of a table, a table that isn't well formed, or fewer than 5 words. */
+uint64_t wtp_deadline(const uint8_t *table, size_t table_len, uint64_t *due, size_t due_len);
+
+/* Fires the record named, which must be due: its deadline is not after `now`. It need not be the earliest one.
+ * 1, 2; 3: peer; 8: no such record; 9: it has no deadline, or a later one. */
+uint64_t wtp_fire(uint8_t *table, size_t table_len, uint8_t *store, size_t store_len, uint8_t *out, size_t out_len,
+                  uint64_t *answer, size_t answer_len, uint64_t now, uint64_t role, uint64_t peer, uint64_t tid);
 
 /* Reads the PDU in `pdu` into the first 88 words of `fields`. Starts count from the PDU's first octet.
  * 1: fewer than 88 words; 11: length outside 1 to 1,500; then D2, D1, D5, D6, D3 or D4, D7. */

@@ -1,5 +1,6 @@
-"""An engine read from document 01 ("Numbers given back", "TIDs", "Events"), from the C interface's words and from docs/TABLE.md, and not from
-the definitions: a second opinion on what each call gives. It notes in `reached` each row, test and refusal that a call meets.
+"""An engine read from document 01 ("Numbers given back", "TIDs", "Events"), from document 02 as far as it has landed (L3), from the C
+interface's words and from docs/TABLE.md, and not from the definitions: a second opinion on what each call gives. It notes in `reached`
+each row, test and refusal that a call meets.
 """
 
 BOUND = 10 ** 12
@@ -172,10 +173,13 @@ class Call:
     def __init__(self, end, table, time):
         self.end, self.t, self.time = end, table, time
         self.sent, self.shown, self.tid, self.fired, self.met, self.refusal, self.changed = b"", [], None, None, "", 0, []
+        self.by_name = False
 
     def meet(self, state, event, row, condition=""):
         self.met = " {%s %s %s}" % (state, EVENT_NAME[event], row)
         reached.add((state, event, condition))
+        if self.by_name:
+            reached.add((state, "timer, by name", condition))
         reached.add(("row", row if state != "Free" else "opening " + row, ""))
 
     def cell(self, r):
@@ -485,7 +489,7 @@ def arrive(c, peer, s):
         c.meet("Free", event, "Ignored", "top bit %d" % top)
 
 
-# ---- the six calls: refusals lowest first, then the event
+# ---- the calls: refusals lowest first, then the event
 
 class End:
     """What one end's user lends to its calls, and the PDU that it sent last."""
@@ -511,9 +515,14 @@ def lent(end, k):
     return min(normal if lend[k] is None else lend[k], CAPACITY[k])
 
 
-def sizes_wrong(end):
+def table_size_wrong(end):
     n, rest = divmod(lent(end, 0) - HEADER, RECORD)
-    return rest != 0 or not 1 <= n <= 48 or lent(end, 1) != CELL * n or lent(end, 2) < 1028 or lent(end, 3) < 32
+    return rest != 0 or not 1 <= n <= 48
+
+
+def sizes_wrong(end):
+    n = (lent(end, 0) - HEADER) // RECORD
+    return table_size_wrong(end) or lent(end, 1) != CELL * n or lent(end, 2) < 1028 or lent(end, 3) < 32
 
 
 def changed_records(before, after):
@@ -592,10 +601,48 @@ def timer(end, time):
     return call("timer", end, time, lambda t: [], event)
 
 
+def deadline(end):
+    """02, L3: tells the earliest deadline of a live record, due or not, and its record, the lowest place on ties, or that there is none.
+    It takes no time and changes nothing; number 1 is its only refusal."""
+    wrong = "size" if table_size_wrong(end) else "words" if lent(end, 3) < 5 else "form" if not well_formed(end.octets[:lent(end, 0)]) else ""
+    if wrong:
+        reached.add(("deadline", 1, wrong))
+        return 1, None
+    t = Table(end.octets[:lent(end, 0)])
+    with_one = [(r.deadline, k) for k, r in enumerate(t.records) if r.live() and r.deadline]
+    if not with_one:
+        reached.add(("deadline", "none", "live records" if any(r.live() for r in t.records) else "no live record"))
+        return 0, None
+    at, place = min(with_one)
+    reached.add(("deadline", "told", "a tie" if sum(d == at for d, _ in with_one) > 1 else "later ones" if len(with_one) > 1 else "alone"))
+    reached.add(("deadline", "told", "past the bound" if at > BOUND else "past" if at <= t.clock else "to come"))
+    r = t.records[place]
+    return 0, (at, r.role(), r.peer, r.tid)
+
+
+def fire(end, time, role, peer, tid):
+    """02, L3: fires the record named, which must be due and need not be the earliest."""
+    def tests(t):
+        r = t.named(role, peer, tid)
+        return [(3, peer > 255), (8, r is None), (9, r is None or not 0 < r.deadline <= time)]
+
+    def event(c):
+        r = c.t.named(role, peer, tid)
+        due = min((r.deadline, k) for k, r in enumerate(c.t.records) if r.live() and 0 < r.deadline)
+        reached.add(("fire", "fired", "the earliest" if c.t.records[due[1]] is r else "a later one"))
+        c.fired, c.by_name = (role, peer, tid), True
+        turn(c, r, "timer")
+    n, c = call("fire", end, time, tests, event)
+    if n == 9:
+        r = Table(end.octets[:lent(end, 0)]).named(role, peer, tid)
+        reached.add(("fire", 9, "a later deadline" if r.deadline else "no deadline"))
+    return n, c
+
+
 def make_fresh(end, first):
     words = (settings + [0] * 8)[:lent(end, 4)]
-    n, rest = divmod(lent(end, 0) - HEADER, RECORD)
-    if rest or not 1 <= n <= 48:
+    n = (lent(end, 0) - HEADER) // RECORD
+    if table_size_wrong(end):
         reached.add(("fresh", 1, ""))
         return 1
     good = (len(words) == 32 and words[0] <= 8 and words[1] <= 8 and all(1 <= x <= LONGEST for x in words[2:22]) and not any(words[22:])

@@ -1,5 +1,5 @@
 """The commands of a scenario, and the lines that the player must print for them: what the engine read from document 01 gives, in words."""
-from engine import NO_DATA, ROLES, Table, ends, lend, make_fresh, primitive, reached, receive, request, settings, table_bytes, timer
+from engine import (NO_DATA, ROLES, Table, deadline, ends, fire, lend, make_fresh, primitive, reached, receive, request, settings, table_bytes, timer)
 from notation import text_of
 
 
@@ -31,7 +31,7 @@ def answer_text(end, c, s=b"", name=""):
         text += "; sent " + text_of(c.sent)
     if c.tid is not None:
         text += "; tid %d" % c.tid
-    if name == "timer":
+    if name in ("timer", "fire"):
         text += "; fired %s %d/%d" % (ROLES[c.fired[0]], c.fired[1], c.fired[2]) if c.fired else "; none due"
     return text + "".join(shown_text(end, s, w) for w in c.shown)
 
@@ -135,6 +135,21 @@ def get(e, time, peer, has=None):
 
 def tim(e, time, has=None):
     add_call("tim %d %d" % (e, time), ends[e], timer(ends[e], time), has, name="timer")
+
+
+def due(e, has=None):
+    n, told = deadline(ends[e])
+    add("due %d" % e, outcome(n) + ("" if n else "; %d %s %d/%d" % (told[0], ROLES[told[1]], told[2], told[3]) if told else "; none"), has)
+
+
+def fir(e, time, role, peer, tid, has=None):
+    add_call("fir %d %d %d %d %d" % (e, time, role, peer, tid), ends[e], fire(ends[e], time, role, peer, tid), has, name="fire")
+
+
+def fires(e, role, has=None):
+    """Fires peer 5, TID 7 at its own deadline, which is told before."""
+    at = Table(ends[e].octets[:table_bytes(ends[e].records)]).named(role, 5, 7).deadline
+    due(e, has="; %d %s 5/7" % (at, ROLES[role])), fir(e, at - 1, role, 5, 7, has="refused 9"), fir(e, at, role, 5, 7, has=has)
 
 
 def look(e, has=None):

@@ -10,8 +10,8 @@ usage: tests/scenarios.py [--check]   (--check: only say whether both files are 
 import pathlib
 import sys
 
-from engine import BOUND, CLASS, ROLES, STATES, ends, reached
-from playing import (G, R, abo, ans, edge, expected, fresh, get, lends, lines, look, octets, pair, put, rcv, req, res, sets, size, tim, title, titles)
+from engine import BOUND, CLASS, ROLES, STATES, ends, reached, table_bytes
+from playing import (G, R, abo, ans, due, edge, expected, fir, fires, fresh, get, lends, lines, look, octets, pair, put, rcv, req, res, sets, size, tim, title, titles)
 
 
 # ---- whole transactions between the two ends
@@ -538,6 +538,70 @@ def timers():
     rcv(R, 500, 5, "188005", has="Ignored}"), tim(R, 499, has="refused 2"), rcv(R, 500, 5, "18", has="{Nobody}"), rcv(R, 600, 5, "0E800701", has="{Nobody}"), look(R, has=": clock 600")
 
 
+def timer_in_two():
+    title("02, L3: the earliest deadline, and the firing of a record that is named: the reading's example, row by row")
+    sets(_0=2, _1=1, _2=100, _3=200, **{"_%d" % (first + k): start + 10 * k for first, start in ((4, 50), (13, 150)) for k in range(9)})
+    fresh(R, 3, 5)
+    req(R, 1000, 7, 2, has="; sent 0E000502; tid 5"), req(R, 1000, 8, 1, 0, "01", has="; sent 0E00060101; tid 6"), req(R, 1000, 9, 1, 0, "02", has="; sent 0E00070102; tid 7")
+    due(R, has=": ok; 1050 initiator 8/6")
+    fir(R, 1049, 0, 9, 7, has="refused 9")
+    fir(R, 1050, 0, 9, 9, has="refused 8")
+    fir(R, 1050, 0, 256, 9, has="refused 3")
+    fir(R, 1050, 0, 9, 7, has="; sent 0F00070102; fired initiator 9/7")
+    fir(R, 1160, 0, 7, 5, has="; sent 0F000502; fired initiator 7/5")
+    tim(R, 1160, has="; sent 0F00060101; fired initiator 8/6")
+    due(R, has=": ok; 1110 initiator 9/7")
+    title("no deadline: no live record, TIDOK WAIT, held on; firing such a record gives 9")
+    pair()
+    due(R, has=": ok; none"), rcv(R, 10, 5, "0E000701", has="; sent 1C8007"), due(R, has="; none"), fir(R, 9999, 1, 5, 7, has="refused 9")
+    req(R, 20, 5, 2), due(R, has="; 3020 initiator 5/7"), rcv(R, 30, 5, "188007", has="HeldOn}"), due(R, has="; none"), fir(R, 9999, 0, 5, 7, has="refused 9"), look(R, has=": clock 30,")
+    title("the earliest deadline whatever its place, one that is past and one past the bound of times; it takes no time and stores none")
+    pair(records=3)
+    req(R, 100, 5, 2), req(R, 200, 5, 1), req(R, 300, 5, 1), due(R, has="; 2200 initiator 5/8"), due(R, has="; 2200 initiator 5/8"), look(R, has=": clock 300,")
+    fir(R, BOUND, 0, 5, 9, has="; sent 0F000901; fired initiator 5/9"), due(R, has="; 2200 initiator 5/8"), fir(R, BOUND, 0, 5, 8), due(R, has="; 3100 initiator 5/7"), fir(R, BOUND, 0, 5, 7)
+    due(R, has="; 1000000002100 initiator 5/8"), fir(R, BOUND, 0, 5, 8, has="refused 9"), fir(R, BOUND + 1, 0, 5, 8, has="refused 2")
+    title("the timer call is the two together, in answer, table, store and output, as long as a record is due; where none is, it alone stores its time")
+    pair(records=3)
+    for e in (R, G):
+        req(e, 100, 5, 2, 0, "A1"), req(e, 100, 6, 1, 0, "B2"), rcv(e, 100, 7, "0E000911"), rcv(e, 100, 7, "1C0009")
+    for name, has in (((1, 7, 9), "fired responder 7/9"), ((0, 6, 8), "; sent 0F000801B2; fired initiator 6/8"), ((0, 5, 7), "; sent 0F000702A1; fired initiator 5/7")):
+        tim(R, 9000, has=has), due(G, has="initiator %d/%d" % name[1:] if name[0] == 0 else "responder 7/9"), fir(G, 9000, *name, has=has)
+        assert expected[-1].split(":", 1)[1] == expected[-3].split(":", 1)[1] and ends[R].octets[:table_bytes(3)] == ends[G].octets[:table_bytes(3)]
+    look(R, has=": clock 9000,"), tim(R, 9500, has="; none due"), look(R, has=": clock 9500,"), due(G), fir(G, 9500, 0, 5, 7, has="refused 9"), look(G, has=": clock 9000,")
+    title("the timer's row of every state, fired by name: one millisecond before its deadline it isn't due")
+    for state, has in (("IResultWait1", "; sent 0F000701AABB"), ("IResultWait2", "; sent 0F000702AABB"), ("RResultRespWait", "; sent 178007DDEE")):
+        e, role = reach(state)
+        for k in range(4):
+            fires(e, role, has=has)
+        fires(e, role, has="GivenUp}; fired %s 5/7; abort %s 5/7 reason 8 no data" % (ROLES[role], ROLES[role]))
+        fir(e, 10 ** 6, role, 5, 7, has="refused 8")
+    for cls in (1, 2):
+        e, role = reach("IResultWait%d" % cls)
+        rcv(e, 150, 5, "1C8007", has="; sent 1C0007"), fires(e, role, has="; sent 1D0007")
+        e, role = reach("RTidokWait%d" % cls)
+        put(e, 633, 1), fires(e, role, has="{RTidokWait%d Timer Ignored}; fired responder 5/7" % cls), fir(e, 1000, role, 5, 7, has="Ignored}; fired responder 5/7"), due(e, has="; 256 responder 5/7")
+    for state, has in (("IResultRespWait", "ResultAcked}; sent 180007"), ("IWaitTimeout", "TimeoutEnds}"), ("RInvokeRespWait1", "InvokeAcked}; sent 188007"), ("RInvokeRespWait2", "HoldOnSent}; sent 188007"),
+                       ("RResultWait", "HoldOnSent}; sent 188007"), ("RWaitTimeout", "TimeoutEnds}")):
+        e, role = reach(state)
+        fires(e, role, has=has)
+    for state in ("IResultRespWait", "RInvokeRespWait1", "RInvokeRespWait2"):
+        e, role = reach(state, up=1)
+        for has in ("UserAwaited}", "UserAwaited}", "UserSilent}; sent 20%s0708" % ("00", "80")[role]):
+            fires(e, role, has=has)
+    title("the deadline's only number is 1: the table's size and form, and fewer than 5 words; store and output aren't lent")
+    pair(records=2)
+    req(R, 10, 5, 1)
+    for sizes in ((975, 2048, 1100, 33, 32), (977, 2048, 1100, 33, 32), (624, 0, 1100, 33, 32), (0, 0, 1100, 33, 32), (9248, 50176, 1100, 33, 32), (976, 2048, 1100, 4, 32), (976, 2048, 1100, 0, 32)):
+        lends(*sizes), due(R, has="refused 1")
+    lends(976, 0, 0, 5, 32), due(R, has="; 2010 initiator 5/7"), lends(), put(R, 644, 1), due(R, has="refused 1"), put(R, 644, 0), due(R, has="; 2010 initiator 5/7")
+    title("firing: 1, 2, 3, 8, 9, the lowest first; a role that is none and a TID with its top bit have no live record")
+    pair()
+    req(R, 10, 5, 1), put(R, 100, 1), fir(R, 9, 2, 256, 7, has="refused 1"), put(R, 100, 0), fir(R, 9, 2, 256, 7, has="refused 2"), fir(R, 10, 2, 256, 7, has="refused 3"), fir(R, 10, 0, 2 ** 64 - 1, 7, has="refused 3")
+    for name in ((2, 5, 7), (2 ** 64 - 1, 5, 7), (1, 5, 7), (0, 6, 7), (0, 5, 8), (0, 5, 0x8007), (0, 5, 65536 + 7), (0, 5, 2 ** 64 - 1)):
+        fir(R, 10, *name, has="refused 8")
+    fir(R, 10, 0, 5, 7, has="refused 9"), fir(R, 2009, 0, 5, 7, has="refused 9"), look(R, has=": clock 10,"), fir(R, 2010, 0, 5, 7, has="; sent 0F000701; fired initiator 5/7")
+
+
 def refusals():
     title("the fresh-table call: size, then settings and the first TID; 48 records at the most")
     size(0, ": 0"), size(1, ": 800"), size(48, ": 9072"), size(49, ": 0"), size(2 ** 64 - 1, ": 0")
@@ -558,7 +622,7 @@ def refusals():
     title("the fresh-table call takes any old contents: live records, cached TIDs, damage")
     pair()
     req(R, 100, 5, 1), rcv(R, 200, 6, "0E000901"), rcv(R, 300, 6, "1C0009"), put(R, 92, 1), put(R, 7, 255), fresh(R, 2, 32767), look(R, has=": clock 0, next TID 32767"), req(R, 0, 5, 1, has="; tid 32767")
-    title("number 1 of the six calls: store, output, answer or table of the wrong size, whatever else is wrong")
+    title("number 1 of the engine's calls: store, output, answer or table of the wrong size, whatever else is wrong")
     pair(records=2)
     req(R, 10, 5, 1)
     for sizes in ((975, 2048, 1100, 33, 32), (977, 2048, 1100, 33, 32), (800, 2048, 1100, 33, 32), (624, 0, 1100, 33, 32), (0, 0, 1100, 33, 32), (976, 2047, 1100, 33, 32), (976, 2049, 1100, 33, 32), (976, 1024, 1100, 33, 32),
@@ -652,9 +716,9 @@ def refusals():
 
 
 def every_call(has, time=20):
-    """Each of the six calls, each of which would otherwise be accepted or refused with a higher number."""
+    """Each of the engine's calls, each of which would otherwise be accepted or refused with a higher number."""
     req(R, time, 5, 1, 0, "AA", has=has), ans(R, time, 0, 5, 7, has=has), res(R, time, 0, 5, 7, has=has), abo(R, time, 0, 5, 7, 0, has=has)
-    rcv(R, time, 5, "188007", has=has), tim(R, time, has=has)
+    rcv(R, time, 5, "188007", has=has), tim(R, time, has=has), fir(R, time, 0, 5, 7, has=has)
 
 
 def mixups():
@@ -702,6 +766,7 @@ def needed():
     for state in STATES[1:]:
         for event in events[state[0]] + ["timer"]:
             yield from ((state, event, c) for c in conditions.get((state, event), [""]))
+        yield from ((state, "timer, by name", c) for c in conditions.get((state, "timer"), [""]))
         yield from ((state, "Abort", c) for c in ("provider", "user"))
     yield from (("Free", "malformed", c) for c in ("Invoke", "TIDve", "other"))
     yield from (("Free", "Tve" + rid, c) for rid in ("", " RID") for c in ("TIDve", "top bit 0"))
@@ -714,7 +779,13 @@ def needed():
     yield from (("first Invoke, class %d" % k, t, "") for k in (1, 2) for t in ("a", "b", "c", "e", "f", "g, none cached", "g, d = 0", "g, d over 16,383"))
     yield from (("timer", "fired", c) for c in ("alone", "later ones due", "a tie"))
     yield ("timer", "none due", "")
-    numbers = {"fresh": (0, 1, 10), "request": (0, 2, 3, 4, 5, 6, 7), "answer": (0, 2, 3, 4, 8, 9), "result": (0, 2, 3, 4, 8, 9), "abort": (0, 2, 3, 8, 9), "receive": (0, 2, 3, 11), "timer": (0, 2)}
+    yield from (("fire", "fired", c) for c in ("the earliest", "a later one"))
+    yield from (("fire", 9, c) for c in ("no deadline", "a later deadline"))
+    yield from (("deadline", "told", c) for c in ("alone", "later ones", "a tie", "to come", "past", "past the bound"))
+    yield from (("deadline", "none", c) for c in ("no live record", "live records"))
+    yield from (("deadline", 1, c) for c in ("size", "words", "form"))
+    numbers = {"fresh": (0, 1, 10), "request": (0, 2, 3, 4, 5, 6, 7), "answer": (0, 2, 3, 4, 8, 9), "result": (0, 2, 3, 4, 8, 9), "abort": (0, 2, 3, 8, 9), "receive": (0, 2, 3, 11), "timer": (0, 2),
+               "fire": (0, 2, 3, 8, 9)}
     yield from ((name, n, "") for name, list_ in numbers.items() for n in list_)
     yield from ((name, 1, why) for name in numbers if name != "fresh" for why in ("size", "form"))
     yield from (("edge", text, "") for text in EDGES)
@@ -741,6 +812,7 @@ malformed()
 in_every_state()
 acting_rows()
 timers()
+timer_in_two()
 refusals()
 mixups()
 missed = [key for key in needed() if key not in reached]

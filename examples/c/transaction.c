@@ -1,5 +1,5 @@
-/* Three class 2 transactions between a reader (the initiator) and a gateway (the responder): a result with data, a result
- * without data, and an abort. Each is shown to the reader as what it is. */
+/* Four class 2 transactions between a reader (the initiator) and a gateway (the responder): a result with data, one whose
+ * Invoke is lost and sent again, a result without data, and an abort. Each is shown to the reader as what it is. */
 #include <stdio.h>
 #include <stdlib.h>
 #include <string.h>
@@ -86,11 +86,30 @@ static void deliver(struct end *from, struct end *to)
     }
 }
 
-static uint64_t ask(const char *question)
+static uint64_t request(const char *question)
 {
     must(wtp_request(LENT(&reader), ++now, reader.peer, 2, 0, (const uint8_t *)question, strlen(question)));
-    uint64_t tid = reader.answer[WTP_GIVEN_TID];
+    return reader.answer[WTP_GIVEN_TID];
+}
+
+static uint64_t ask(const char *question)
+{
+    uint64_t tid = request(question);
     deliver(&reader, &gateway);
+    return tid;
+}
+
+/* The Invoke is lost. With nothing to do until the next deadline, a device would sleep; then it fires the record that is due. */
+static uint64_t ask_twice(const char *question)
+{
+    uint64_t tid = request(question), due[WTP_DUE];
+    must(wtp_deadline(reader.table, reader.table_len, due, WTP_DUE));
+    if (due[WTP_DUE_ANY]) {
+        printf("the reader's Invoke is lost; it sleeps for %u ms\n", (unsigned)(due[WTP_DUE_AT] - now));
+        now = due[WTP_DUE_AT];
+        must(wtp_fire(LENT(&reader), now, due[WTP_DUE_ROLE], due[WTP_DUE_PEER], due[WTP_DUE_TID]));
+        deliver(&reader, &gateway);
+    }
     return tid;
 }
 
@@ -107,8 +126,9 @@ int main(void)
     start(&reader);
     start(&gateway);
     reply(ask("sampler 17"), "0.8 ug/m3");
-    reply(ask("sampler 18"), "");
-    uint64_t tid = ask("sampler 19");
+    reply(ask_twice("sampler 18"), "1.4 ug/m3");
+    reply(ask("sampler 19"), "");
+    uint64_t tid = ask("sampler 20");
     must(wtp_abort(LENT(&gateway), ++now, WTP_RESPONDER, gateway.peer, tid, 200));
     deliver(&gateway, &reader);
     return 0;

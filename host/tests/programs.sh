@@ -195,5 +195,9 @@ check "Ctrl-C at the gateway" ended INT second
 check "--quiet" [ "$(wc -l <"$work/second.log")" = 4 ]
 gateway third
 check "SIGTERM at the gateway" ended TERM third
+gateway idle
+sleep 1
+check "a gateway that nobody asks sleeps until its signal" ended TERM idle
+check "and wakes up for nothing else" grep -q "; woke up once$" "$work/idle.log"
 
 finish

@@ -1,4 +1,4 @@
-// The engine's six calls: each plans, then carries its plan out.
+// The engine's seven calls: each plans, then carries its plan out.
 ghost use mathlib.Core.Path.{_≡_};
 ghost use mathlib.Core.List.{[]};
 ghost use lib.ListN.{length};
@@ -175,6 +175,24 @@ pub fn timer(table: &mut [u8], store: &mut [u8], output: &mut [u8], time: u64) -
 {
     let none = [0u8; 1];
     let plan = call_timer::timer_plan(table, store.len(), output.len(), time);
+    let nothing = &none[..0];
+    carried(table, store, output, nothing, nothing, plan)
+}
+
+// Fires the record that is named, if it is due.
+pub fn fire(
+    table: &mut [u8],
+    store: &mut [u8],
+    output: &mut [u8],
+    time: u64,
+    role: u64,
+    peer: u64,
+    tid: u64,
+) -> Answer
+    ensures { λ r. ⌜ done r (now (table .exit)) (now (store .exit)) (now (output .exit)) ≡ promised (Call.Fire time role peer tid) (lent (now (table .entry)) (now (store .entry)) (now (output .entry)) [] []) ⌝ }
+{
+    let none = [0u8; 1];
+    let plan = call_fire::fire_plan(table, store.len(), output.len(), time, role, peer, tid);
     let nothing = &none[..0];
     carried(table, store, output, nothing, nothing, plan)
 }

@@ -1,4 +1,4 @@
--- The engine's calls as one type (01, "Events"), and what each promises as one equation: its answer, and what table, store and output then hold. A further call is one more case of each definition here.
+-- The engine's calls as one type (01, "Events"; 02, L3), and what each promises as one equation: its answer, and what table, store and output then hold. A further call is one more case of each definition here.
 use Prim.Native.Nat.{ℕ}
 use mathlib.Core.Path.{_≡_}
 use mathlib.Core.Bool.{Bool, true, false}
@@ -12,6 +12,7 @@ use Rattle.call_primitive.specs.Primitives.{primitivePlan}
 use Rattle.call_primitive.specs.declared.Primitive.{Primitive}
 use Rattle.call_receive.specs.Receives.{receivePlan}
 use Rattle.call_timer.specs.Timers.{timerPlan}
+use Rattle.call_fire.specs.Fires.{asFire, firePlan}
 use Rattle.step_outcome.specs.Carry.{Lent, Done, outcome}
 
 -- one of the calls, with the numbers that it was given
@@ -22,6 +23,7 @@ pub data Call : Type 0 where
   Abort : (time role peer tid reason : ℕ) → Call
   Receive : (time peer : ℕ) → Call
   Timer : (time : ℕ) → Call
+  Fire : (time role peer tid : ℕ) → Call
 
 -- what is asked: a request, a user's answer with exit information, a result with its data, an abort with its reason
 abbrev pub asRequest : ℕ → ℕ → ℕ → Bool → ℕ → Requesting
@@ -51,6 +53,7 @@ planFor (Call.Result time role peer tid) l = primitivePlan (l .table) (storeSize
 planFor (Call.Abort time role peer tid reason) l = primitivePlan (l .table) (storeSize l) (outputSize l) (asAbort time role peer tid reason)
 planFor (Call.Receive time peer) l = receivePlan (l .table) (storeSize l) (outputSize l) time peer (l .given)
 planFor (Call.Timer time) l = timerPlan (l .table) (storeSize l) (outputSize l) time
+planFor (Call.Fire time role peer tid) l = firePlan (l .table) (storeSize l) (outputSize l) (asFire time role peer tid)
 
 -- what it promises: its plan, carried out
 unfoldable pub promised : Call → Lent → Done
@@ -64,6 +67,7 @@ Lends (Call.Result time role peer tid) l = l .exit ≡ []
 Lends (Call.Abort time role peer tid reason) l = (l .given ≡ []) × (l .exit ≡ [])
 Lends (Call.Receive time peer) l = l .exit ≡ []
 Lends (Call.Timer time) l = (l .given ≡ []) × (l .exit ≡ [])
+Lends (Call.Fire time role peer tid) l = (l .given ≡ []) × (l .exit ≡ [])
 
 -- the time that it was given
 abbrev pub timeOf : Call → ℕ
@@ -73,6 +77,7 @@ timeOf (Call.Result time role peer tid) = time
 timeOf (Call.Abort time role peer tid reason) = time
 timeOf (Call.Receive time peer) = time
 timeOf (Call.Timer time) = time
+timeOf (Call.Fire time role peer tid) = time
 
 -- the peer that it names; a timer call names none
 abbrev pub peerIn : Call → ℕ
@@ -82,6 +87,7 @@ peerIn (Call.Result time role peer tid) = peer
 peerIn (Call.Abort time role peer tid reason) = peer
 peerIn (Call.Receive time peer) = peer
 peerIn (Call.Timer time) = 0
+peerIn (Call.Fire time role peer tid) = peer
 
 -- a request, which alone is given a new TID
 abbrev pub isRequest : Call → Bool
@@ -91,6 +97,7 @@ isRequest (Call.Result time role peer tid) = false
 isRequest (Call.Abort time role peer tid reason) = false
 isRequest (Call.Receive time peer) = false
 isRequest (Call.Timer time) = false
+isRequest (Call.Fire time role peer tid) = false
 
 -- a user's answer, result or abort, which names a live record
 abbrev pub isPrimitive : Call → Bool
@@ -100,3 +107,4 @@ isPrimitive (Call.Result time role peer tid) = true
 isPrimitive (Call.Abort time role peer tid reason) = true
 isPrimitive (Call.Receive time peer) = false
 isPrimitive (Call.Timer time) = false
+isPrimitive (Call.Fire time role peer tid) = false

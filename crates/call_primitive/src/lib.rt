@@ -32,7 +32,7 @@ pub struct Primitive {
 }
 
 // The record that a primitive names; a role other than 0 and 1 names none.
-fn named_by(t: &[u8], role: u64, peer: u64, tid: u64) -> Found
+pub fn named_by(t: &[u8], role: u64, peer: u64, tid: u64) -> Found
     requires { ⌜ WellFormed (now t) ⌝ }
     ensures { λ r. ⌜ r ≡ namedBy (now (t .entry)) role peer tid ⌝ }
 {

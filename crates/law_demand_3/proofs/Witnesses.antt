@@ -103,7 +103,7 @@ module _ (e : Entry) (h : List Entry) where
   pub no-invoke-by-timer : Invoke0Exact e h → InvokeByTimer e → ⊥
   no-invoke-by-timer invokes w =
       let i = invokes (w .peer) (w .tid) (w .up) (w .place) (w .invoke) in
-      true-false (sym (ap fires (w .call-is)) ∙ ap fires (i .received))
+      true-false (sym (w .by-firing) ∙ ap fires (i .received))
 
   pub no-refused-change : CallFramed e h → RefusedChange e → ⊥
   no-refused-change f w = w .changed (ap (λ (t : List ℕ). getD t (w .octet) 0) (f .refused (w .refused) .0))

@@ -12,7 +12,7 @@ use Rattle.step_arrivals.specs.declared.Name.the-variants.{Of}
 use Rattle.step_shown.specs.declared.Place.{Place}
 use Rattle.step_shown.specs.declared.Shown.the-variants as Shown
 use Rattle.call_plans.specs.Calls.{Call}
-use Rattle.call_plans.specs.Concerns.{NamedBy}
+use Rattle.call_plans.specs.Concerns.{NamedBy, fires}
 use Rattle.law_history.specs.Trace.{Entry}
 use Rattle.law_history.specs.Tally.{sentOf, accepted}
 use Rattle.law_history.specs.Moves.{before, after}
@@ -74,10 +74,9 @@ pub record AbortUnsent (e : Entry) : Type 0 where
   pub taken : accepted (e .done .answer) ≡ true
   pub unsent : sentOf (e .done .answer) (e .done .output) ≡ []
 
--- W6: an Invoke shown again as one of class 0, by a timer call
+-- W6: an Invoke shown again as one of class 0, by a call that fires a record
 pub record InvokeByTimer (e : Entry) : Type 0 where
-  pub time : ℕ
-  pub call-is : e .call ≡ Call.Timer time
+  pub by-firing : fires (e .call) ≡ true
   pub peer : ℕ
   pub tid : ℕ
   pub up : Bool

@@ -31,6 +31,9 @@ use Rattle.wtp.proofs.wtp_receive.Kinds as receive-kinds
 use Rattle.wtp.proofs.wtp_timer as timer
 use Rattle.wtp.proofs.wtp_timer.Reads as timer-reads
 use Rattle.wtp.proofs.wtp_timer.Kinds as timer-kinds
+use Rattle.wtp.proofs.wtp_fire as fire
+use Rattle.wtp.proofs.wtp_fire.Reads as fire-reads
+use Rattle.wtp.proofs.wtp_fire.Kinds as fire-kinds
 
 -- `wtp_request`
 pub request-keeps : (κs : Lfts 5) (a : ArgsD request.signature κs) (r : ResD request.signature κs) (x : AtExit (endedOf 5 request-kinds.ps request-kinds.r) κs) → request-reads.Learnt κs a r x
@@ -91,3 +94,13 @@ pub timer-keeps : (κs : Lfts 4) (a : ArgsD timer.signature κs) (r : ResD timer
       seen = called r (now (x .0)) (now (x .1 .0)) (now (x .1 .1 .0)) (now (x .1 .1 .1 .0));
     })
 timer-keeps κs a r x k = record { lends = (refl, refl); keeps = k }
+
+-- `wtp_fire`
+pub fire-keeps : (κs : Lfts 4) (a : ArgsD fire.signature κs) (r : ResD fire.signature κs) (x : AtExit (endedOf 4 fire-kinds.ps fire-kinds.r) κs) → fire-reads.Learnt κs a r x
+    → Keeps (record {
+      call = Call.Fire (a .1 .1 .1 .1 .0) (a .1 .1 .1 .1 .1 .0) (a .1 .1 .1 .1 .1 .1 .0) (a .1 .1 .1 .1 .1 .1 .1 .0);
+      lent = lent (now (a .0)) (now (a .1 .0)) (now (a .1 .1 .0)) [] [];
+      words = (now (a .1 .1 .1 .0));
+      seen = called r (now (x .0)) (now (x .1 .0)) (now (x .1 .1 .0)) (now (x .1 .1 .1 .0));
+    })
+fire-keeps κs a r x k = record { lends = (refl, refl); keeps = k }

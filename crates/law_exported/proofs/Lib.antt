@@ -2,3 +2,4 @@ pub mod Contracts
 pub mod OneOutcome
 pub mod Exported
 pub mod DataSaid
+pub mod InTwo

@@ -50,6 +50,12 @@ use Rattle.wtp.proofs.wtp_receive.Kinds as receive-kinds
 use Rattle.wtp.proofs.wtp_timer as timer
 use Rattle.wtp.proofs.wtp_timer.Reads as timer-reads
 use Rattle.wtp.proofs.wtp_timer.Kinds as timer-kinds
+use Rattle.wtp.proofs.wtp_deadline as deadline
+use Rattle.wtp.proofs.wtp_deadline.Reads as deadline-reads
+use Rattle.wtp.proofs.wtp_deadline.Kinds as deadline-kinds
+use Rattle.wtp.proofs.wtp_fire as fire
+use Rattle.wtp.proofs.wtp_fire.Reads as fire-reads
+use Rattle.wtp.proofs.wtp_fire.Kinds as fire-kinds
 
 -- two things that are one third are the same
 same : {A : Type 0} {a b c : A} → a ≡ c → b ≡ c → a ≡ b
@@ -128,3 +134,13 @@ receive-one κs a r r' x y k m = parts (same k m)
 pub timer-one : (κs : Lfts 4) (a : ArgsD timer.signature κs) (r r' : ResD timer.signature κs) (x y : AtExit (endedOf 4 timer-kinds.ps timer-kinds.r) κs) → timer-reads.Learnt κs a r x → timer-reads.Learnt κs a r' y
     → (r ≡ r') × ((now (x .0)) ≡ (now (y .0))) × ((now (x .1 .0)) ≡ (now (y .1 .0))) × ((now (x .1 .1 .0)) ≡ (now (y .1 .1 .0))) × ((now (x .1 .1 .1 .0)) ≡ (now (y .1 .1 .1 .0)))
 timer-one κs a r r' x y k m = parts (same k m)
+
+-- `wtp_deadline`
+pub deadline-one : (κs : Lfts 2) (a : ArgsD deadline.signature κs) (r r' : ResD deadline.signature κs) (x y : AtExit (endedOf 2 deadline-kinds.ps deadline-kinds.r) κs) → deadline-reads.Learnt κs a r x → deadline-reads.Learnt κs a r' y
+    → (r ≡ r') × ((now (x .1 .0)) ≡ (now (y .1 .0)))
+deadline-one κs a r r' x y k m = (same (k .0) (m .0), same (k .1) (m .1))
+
+-- `wtp_fire`: result, table, store, output and answer
+pub fire-one : (κs : Lfts 4) (a : ArgsD fire.signature κs) (r r' : ResD fire.signature κs) (x y : AtExit (endedOf 4 fire-kinds.ps fire-kinds.r) κs) → fire-reads.Learnt κs a r x → fire-reads.Learnt κs a r' y
+    → (r ≡ r') × ((now (x .0)) ≡ (now (y .0))) × ((now (x .1 .0)) ≡ (now (y .1 .0))) × ((now (x .1 .1 .0)) ≡ (now (y .1 .1 .0))) × ((now (x .1 .1 .1 .0)) ≡ (now (y .1 .1 .1 .0)))
+fire-one κs a r r' x y k m = parts (same k m)

@@ -12,7 +12,7 @@ use Rattle.call_plans.specs.Calls.{Call, promised, Lends}
 use Rattle.law_history.specs.Trace.{Entry}
 use Rattle.wtp.specs.Engine.{Called, calledBy}
 
--- a call of wtp_request, wtp_answer, wtp_result, wtp_abort, wtp_receive or wtp_timer: what it was asked and lent, the answer's words among it, and all that the caller sees of it afterwards
+-- a call of wtp_request, wtp_answer, wtp_result, wtp_abort, wtp_receive, wtp_timer or wtp_fire: what it was asked and lent, the answer's words among it, and all that the caller sees of it afterwards
 pub record Exported : Type 0 where
   pub call : Call
   pub lent : Lent

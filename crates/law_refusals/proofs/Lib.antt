@@ -1,4 +1,6 @@
+pub mod WhereFitting
 pub mod Requests
 pub mod Primitives
 pub mod Receives
 pub mod Timers
+pub mod Fires

@@ -2,30 +2,30 @@
 use Prim.Native.Nat.{ℕ, _≤_}
 use native.Mathlib.Omega.{arith}
 use borrow.Author.Tests.{ltb-true, ltb-false}
-use mathlib.Core.Path.{_≡_, refl, sym, _∙_}
+use mathlib.Core.Path.{_≡_, refl, sym}
 use mathlib.Core.List.{List}
 use mathlib.Core.Bool.{true, false, not}
 use mathlib.Core.Logic.{_⊎_, inl, inr}
 use lib.Dec.{ltb}
 use Rattle.base_layout.specs.Layout.{peers}
-use Rattle.base_lists.proofs.StoresAndParts.{true-false, told}
+use Rattle.base_lists.proofs.StoresAndParts.{true-false}
 use Rattle.base_numbers.specs.declared.Refusal.the-variants.{PeerTooLarge, TooLong, NoRecord, NotAllowed}
-use Rattle.table_well_formed.specs.WellFormed.{WellFormed, Fitting, fitting}
-use Rattle.table_well_formed.proofs.TableTest.{to-fitting, from-fitting}
+use Rattle.table_well_formed.specs.WellFormed.{WellFormed}
 use Rattle.table_finding.specs.Finding.{isFound}
 use Rattle.table_finding.specs.declared.Found.{Found}
 use Rattle.table_finding.specs.declared.Found.the-variants.{At, Nothing}
 use Rattle.step_live.specs.Turning.{rowAt}
 use Rattle.call_refusal.specs.Judging.{lowest, Lowest, test, condition}
 use Rattle.call_refusal.specs.Told.{Tells}
-use Rattle.call_refusal.proofs.LowestExact.{lowest-exact, tells-unfit, tells-late}
+use Rattle.call_refusal.proofs.LowestExact.{tells-late}
 use Rattle.call_primitive.specs.Primitives.{ExitRefused, NoneNamed, exitRefused, tooMuch, notAllowed, foundFor, primitiveTests}
 use Rattle.call_primitive.specs.declared.Primitive.{Primitive}
 use Rattle.call_primitive.proofs.Named.{found-named, found-none, one-named}
 use Rattle.call_primitive.proofs.PrimitiveTests.{TooMuchBy, NotTooMuch, exit-refused, exit-not-refused, too-much, not-too-much, row-refuses, row-allows}
+use Rattle.law_refusals.proofs.WhereFitting.{exact-where-fitting}
 use Rattle.law_refusals.specs.Primitives.{TooMuch, NoRow, primitiveConditions}
 
-tells-peer : (p : Primitive) → Tells (test PeerTooLarge (ltb 255 (p .peer))) (condition PeerTooLarge (peers ≤ p .peer))
+pub tells-peer : (p : Primitive) → Tells (test PeerTooLarge (ltb 255 (p .peer))) (condition PeerTooLarge (peers ≤ p .peer))
 tells-peer p = (refl, λ e. omega (arith, ltb-true 255 (p .peer) e), λ e h. absurd (omega (arith, h, ltb-false 255 (p .peer) e)))
 
 -- in a well-formed table, where the name finds this
@@ -52,7 +52,7 @@ module _ (t : List ℕ) (p : Primitive) (w : WellFormed t) where
       no n (inr (inl h)) = absurd (omega (arith, h, n .exit))
       no n (inr (inr h)) = exit-none found f (n .allowed (h .1 .some)) (h .0) (h .1)
 
-  tells-none : (found : Found) → foundFor t p ≡ found → Tells (test NoRecord (not (isFound found))) (condition NoRecord (NoneNamed t p))
+  pub tells-none : (found : Found) → foundFor t p ≡ found → Tells (test NoRecord (not (isFound found))) (condition NoRecord (NoneNamed t p))
   tells-none (At i) f = (refl, λ e. true-false (sym e), λ e none. none i (found-named t p i f))
   tells-none Nothing f = (refl, λ e. found-none t p f, λ e. true-false e)
 
@@ -65,21 +65,8 @@ module _ (t : List ℕ) (p : Primitive) (w : WellFormed t) where
   )
   tells-row Nothing f = (refl, λ e. true-false (sym e), λ e x. found-none t p f (x .0) (x .1 .names))
 
-module _ (t : List ℕ) (store output : ℕ) (p : Primitive) where
-  where-fitting : Fitting t store output → Lowest (primitiveConditions t store output p) (lowest (primitiveTests t store output p))
-  where-fitting fit =
-      let w = fit .formed in
-      lowest-exact (primitiveTests t store output p) (primitiveConditions t store output p)
-      (tells-unfit t store output, (tells-late t (p .time), (tells-peer p, (tells-too-much t p w (foundFor t p) refl, (tells-none t p w (foundFor t p) refl, (tells-row t p w (foundFor t p) refl, tt))))))
-
-  where-unfit : fitting t store output ≡ false → Lowest (primitiveConditions t store output p) (lowest (primitiveTests t store output p))
-  unfolding lowest Lowest
-  where-unfit e = rw e (inl (λ fit. true-false (sym (from-fitting t store output fit) ∙ e), refl))
-
-  -- EACH NUMBER OF A PRIMITIVE IS GIVEN EXACTLY WHEN DOCUMENT 01'S TABLE SAYS SO
-  pub primitive-exact : Lowest (primitiveConditions t store output p) (lowest (primitiveTests t store output p))
-  primitive-exact = go (told (fitting t store output))
-    where
-      go : (fitting t store output ≡ true) ⊎ (fitting t store output ≡ false) → Lowest (primitiveConditions t store output p) (lowest (primitiveTests t store output p))
-      go (inl e) = where-fitting (to-fitting t store output e)
-      go (inr e) = where-unfit e
+-- EACH NUMBER OF A PRIMITIVE IS GIVEN EXACTLY WHEN DOCUMENT 01'S TABLE SAYS SO
+pub primitive-exact : (t : List ℕ) (store output : ℕ) (p : Primitive) → Lowest (primitiveConditions t store output p) (lowest (primitiveTests t store output p))
+primitive-exact t store output p =
+    exact-where-fitting t store output _ _
+    (λ fit. (tells-late t (p .time), (tells-peer p, (tells-too-much t p (fit .formed) (foundFor t p) refl, (tells-none t p (fit .formed) (foundFor t p) refl, (tells-row t p (fit .formed) (foundFor t p) refl, tt))))))

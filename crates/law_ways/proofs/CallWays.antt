@@ -2,7 +2,7 @@
 use Prim.Native.Nat.{ℕ, _≤_}
 use native.Mathlib.Omega.{arith}
 use mathlib.Core.Path.{_≡_, refl, sym, _∙_}
-use mathlib.Core.Bool.{false}
+use mathlib.Core.Bool.{true, false}
 use mathlib.Core.List.{List, []}
 use mathlib.Core.Logic.{_⊎_, inl, inr}
 use lib.ListN.{length}
@@ -22,7 +22,7 @@ use Rattle.step_plan.specs.declared.Step.{Step}
 use Rattle.step_plan.specs.declared.Plan.the-variants.{Go}
 use Rattle.step_live.specs.Turning.{liveStep}
 use Rattle.step_opening.specs.Opens.{openingStep}
-use Rattle.law_places.proofs.Places.{due-live}
+use Rattle.law_places.proofs.Places.{LiveAt, due-live}
 use Rattle.call_refusal.proofs.Going.{Entered}
 use Rattle.call_request.specs.Requests.{requestCall, requestStep}
 use Rattle.call_request.proofs.Accepted as Requests
@@ -35,6 +35,8 @@ use Rattle.call_receive.proofs.KeptData.{kept-small}
 use Rattle.call_receive.proofs.Ways.{Taken, Unmatched, ways}
 use Rattle.call_timer.specs.Timers.{firedGiven, firedCall, stepBy, timerStep}
 use Rattle.call_timer.proofs.Accepted as Timers
+use Rattle.call_fire.specs.Fires.{asFire}
+use Rattle.call_fire.proofs.Accepted as Fires
 use Rattle.step_outcome.specs.Carry.{Lent}
 use Rattle.call_plans.specs.Calls.{Call, asRequest, planFor, Lends, timeOf, peerIn, isRequest}
 use Rattle.call_plans.specs.Concerns.{NamedBy, Concerns, StateAllows, Comes, fires}
@@ -117,32 +119,38 @@ module _ (l : Lent) (time peer : ℕ) (step : Step)
     way = inr (inr (inr record { time = time; peer = peer; call-is = refl; accepted = a; unmatched = u; step-is = a .step-is ∙ u .step-is }));
   }
 
--- a firing
-module _ (l : Lent) (time : ℕ) (step : Step) (a : Entered (l .table) (length (l .store)) (length (l .output)) time) where
-  by-due : (f : Found) → dueOf (l .table) (count (l .table)) time ≡ f → step ≡ stepBy f (l .table) time → Accepted (Call.Timer time) l step
-  unfolding liveStep stepOf firedGiven firedCall noPart idleStep
-  by-due (Found.At i) q is = record {
+-- a firing of the live record at a place, by the timer call or by its name
+module _ (c : Call) (l : Lent) (a : Entered (l .table) (length (l .store)) (length (l .output)) (timeOf c)) (silent : isRequest c ≡ false) (told : fires c ≡ true) (alone : Lends c l → l .exit ≡ []) where
+  by-firing : (i : ℕ) (step : Step) → step ≡ stepBy (Found.At i) (l .table) (timeOf c) → LiveAt (l .table) i → Concerns c l i → Comes c l i Event.Timer (firedGiven (timeOf c)) → Accepted c l step
+  unfolding liveStep stepOf firedGiven firedCall noPart
+  by-firing i step is live concerns comes = record {
     fits = a .fitting;
     small = rw is (omega arith);
-    exit-fits = λ k. no-exit (l .exit) (k .1);
+    exit-fits = λ k. no-exit (l .exit) (alone k);
     way = inr (inl record {
       place = i;
       event = Event.Timer;
-      given = firedGiven time;
+      given = firedGiven (timeOf c);
       asked = firedCall;
       step-is = is;
-      live = due-live (l .table) (a .fitting .formed) time i q;
-      concerns = q;
-      comes = refl;
+      live = live;
+      concerns = concerns;
+      comes = comes;
       time-is = refl;
       aborted = other Event.Timer refl;
       given-ok = record { time = a .bounded; len = omega arith; exit-len = omega arith };
-      lent-ok = λ k. record { message-inside = omega arith; message-fits = omega arith; exit-fits = no-exit (l .exit) (k .1) };
-      no-request = refl;
-      known = inl (refl, refl);
+      lent-ok = λ k. record { message-inside = omega arith; message-fits = omega arith; exit-fits = no-exit (l .exit) (alone k) };
+      no-request = silent;
+      known = inl (told, refl);
       came = inr refl;
     });
   }
+
+-- the timer call
+module _ (l : Lent) (time : ℕ) (step : Step) (a : Entered (l .table) (length (l .store)) (length (l .output)) time) where
+  by-due : (f : Found) → dueOf (l .table) (count (l .table)) time ≡ f → step ≡ stepBy f (l .table) time → Accepted (Call.Timer time) l step
+  unfolding noPart idleStep
+  by-due (Found.At i) q is = by-firing (Call.Timer time) l a refl refl (λ k. k .1) i step is (due-live (l .table) (a .fitting .formed) time i q) q refl
   by-due Found.Nothing q is = record { fits = a .fitting; small = rw is (omega arith); exit-fits = λ k. no-exit (l .exit) (k .1); way = inl record { step-is = is; bounded = a .bounded; no-request = refl; no-primitive = refl } }
 
 pub call-ways : (c : Call) (l : Lent) (step : Step) → planFor c l ≡ Go step → Accepted c l step
@@ -164,3 +172,7 @@ call-ways (Call.Receive time peer) l step e =
 call-ways (Call.Timer time) l step e =
     let a = Timers.timer-accepted (l .table) (length (l .store)) (length (l .output)) time step e in
     by-due l time step (a .enters) (dueOf (l .table) (count (l .table)) time) refl (a .step-is)
+call-ways (Call.Fire time role peer tid) l step e =
+    let a = Fires.fire-accepted (l .table) (length (l .store)) (length (l .output)) (asFire time role peer tid) step e in
+    let n = a .names in
+    by-firing (Call.Fire time role peer tid) l (a .enters) refl refl (λ k. k .1) (a .place) step (a .step-is) (a .live) (record { named = record { role-is = n .role; peer-is = n .peer; tid-is = n .tid }; due = a .due }) refl

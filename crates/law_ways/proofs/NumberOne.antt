@@ -20,6 +20,7 @@ use Rattle.call_request.specs.Requests.{requestPlan}
 use Rattle.call_primitive.specs.Primitives.{primitivePlan}
 use Rattle.call_receive.specs.Receives.{receivePlan}
 use Rattle.call_timer.specs.Timers.{timerPlan}
+use Rattle.call_fire.specs.Fires.{firePlan}
 use Rattle.step_outcome.specs.Carry.{Lent}
 use Rattle.law_steps_sound.specs.Sound.{Fits}
 use Rattle.call_plans.specs.Calls.{Call, planFor}
@@ -61,10 +62,11 @@ module _ (t : List ℕ) (store output : ℕ) (f : Fitting t store output) where
 
 -- what fits isn't refused with number 1
 pub fits-not-refused : (c : Call) (l : Lent) → Fits l → planFor c l ≡ Refuse WrongSize → ⊥
-unfolding requestPlan primitivePlan receivePlan timerPlan
+unfolding requestPlan primitivePlan receivePlan timerPlan firePlan
 fits-not-refused (Call.Request time peer class userAck) l f e = not-one (l .table) _ _ f _ _ refl e
 fits-not-refused (Call.Answer time role peer tid) l f e = not-one (l .table) _ _ f _ _ refl e
 fits-not-refused (Call.Result time role peer tid) l f e = not-one (l .table) _ _ f _ _ refl e
 fits-not-refused (Call.Abort time role peer tid reason) l f e = not-one (l .table) _ _ f _ _ refl e
 fits-not-refused (Call.Receive time peer) l f e = not-one (l .table) _ _ f _ _ refl e
 fits-not-refused (Call.Timer time) l f e = not-one (l .table) _ _ f _ _ refl e
+fits-not-refused (Call.Fire time role peer tid) l f e = not-one (l .table) _ _ f _ _ refl e

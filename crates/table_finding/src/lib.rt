@@ -173,7 +173,8 @@ pub fn tid_in_use(t: &[u8], n: usize, tid: u64) -> bool
     is_found(search(t, n, Sought::WithTid(tid)))
 }
 
-fn is_due(t: &[u8], i: usize, time: u64) -> bool
+// Whether record i is due at this time.
+pub fn is_due(t: &[u8], i: usize, time: u64) -> bool
     requires { ⌜ headerSize + i * recordSize + recordSize ≤ length (now t) ⌝ }
     ensures { λ r. ⌜ r ≡ isDue time (recordAt (now (t .entry)) i) ⌝ }
 {

@@ -28,6 +28,6 @@ handed d words = called (answerNumber (d .answer)) (d .table) (d .store) (d .out
 unfoldable pub orSmall : Lent → List ℕ → Done → Called
 orSmall l words d = orSize 32 (length words) (called (numberOf WrongSize) (l .table) (l .store) (l .output) words) (handed d words)
 
--- what a caller of wtp_request, wtp_answer, wtp_result, wtp_abort, wtp_receive or wtp_timer sees; in wtp_request "a flag parameter: 0 is off, any other value on"
+-- what a caller of wtp_request, wtp_answer, wtp_result, wtp_abort, wtp_receive, wtp_timer or wtp_fire sees; in wtp_request "a flag parameter: 0 is off, any other value on"
 abbrev pub calledBy : Call → Lent → List ℕ → Called
 calledBy c l words = orSmall l words (promised c l)

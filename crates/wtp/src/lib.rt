@@ -8,6 +8,7 @@ ghost use Rattle.table_fresh.specs.Fresh.{tableBytes, freshAnswer, freshNumber,
 ghost use Rattle.c_codec.specs.Calls.{readNumber, fieldsAfter, writeNumber, writeOutput, writeAnswer, separateNumber, partAfter, joinNumber, joinOutput, joinAnswer};
 ghost use Rattle.c_parts.specs.Parts.{readPartNumber, readPartFields, dataNumber, dataOutput};
 ghost use Rattle.call_plans.specs.Calls.{Call};
+ghost use Rattle.call_deadline.specs.Deadlines.{deadlineNumber, dueAfter};
 ghost use Rattle.wtp.specs.Engine.{called, calledBy};
 use base_numbers::Refusal;
 
@@ -211,5 +212,34 @@ pub extern "C" fn wtp_timer(
         return base_numbers::number(Refusal::WrongSize);
     }
     let a = call_engine::timer(table, store, out, time);
+    c_answers::give(answer, a)
+}
+
+// Tells the earliest deadline and its record in five words, and changes nothing else: it takes no time and is no entry of a history.
+#[no_mangle]
+pub extern "C" fn wtp_deadline(table: &[u8], due: &mut [u64]) -> u64
+    ensures { λ r. ⌜ (r ≡ deadlineNumber (now (table .entry)) (now (due .entry))) × (now (due .exit) ≡ dueAfter (now (table .entry)) (now (due .entry))) ⌝ }
+{
+    call_deadline::deadline(table, due)
+}
+
+// Fires the record that is named, if it is due.
+#[no_mangle]
+pub extern "C" fn wtp_fire(
+    table: &mut [u8],
+    store: &mut [u8],
+    out: &mut [u8],
+    answer: &mut [u64],
+    time: u64,
+    role: u64,
+    peer: u64,
+    tid: u64,
+) -> u64
+    ensures { λ r. ⌜ called r (now (table .exit)) (now (store .exit)) (now (out .exit)) (now (answer .exit)) ≡ calledBy (Call.Fire time role peer tid) (lent (now (table .entry)) (now (store .entry)) (now (out .entry)) [] []) (now (answer .entry)) ⌝ }
+{
+    if too_few(answer) {
+        return base_numbers::number(Refusal::WrongSize);
+    }
+    let a = call_engine::fire(table, store, out, time, role, peer, tid);
     c_answers::give(answer, a)
 }

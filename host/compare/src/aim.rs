@@ -1,7 +1,7 @@
 //! Aims calls at what lives in the table: times about deadlines, names of live records, TIDs about cached ones.
 
 use crate::calls::Name;
-use crate::view::View;
+use crate::view::{Live, View};
 use kit::layout::{LAST_TIME, LONGEST};
 use kit::Random;
 
@@ -32,14 +32,23 @@ pub fn time(random: &mut Random, view: View) -> u64 {
 
 /// Just before, at or just after the earliest deadline, where that is still to come.
 pub fn about_earliest(random: &mut Random, view: View) -> u64 {
-    let clock = view.clock();
-    let about = view.earliest().map(|deadline| deadline.wrapping_sub(1).saturating_add(random.below(3)));
-    about.filter(|time| *time >= clock).unwrap_or(clock)
+    view.earliest().map_or(view.clock(), |deadline| about(random, view, deadline))
+}
+
+/// Just before, at or just after a deadline, where that is still to come.
+pub fn about(random: &mut Random, view: View, deadline: u64) -> u64 {
+    deadline.wrapping_sub(1).saturating_add(random.below(3)).max(view.clock())
 }
 
 /// The name of a live record mostly, sometimes with one part changed, in range or not.
 pub fn name(random: &mut Random, view: View) -> Name {
-    let mut name = match view.live(random) {
+    let live = view.live(random);
+    name_of(random, live)
+}
+
+/// The name of this live record mostly, sometimes with one part changed, in range or not.
+pub fn name_of(random: &mut Random, live: Option<Live>) -> Name {
+    let mut name = match live {
         Some(live) if random.percent(92) => Name { role: live.role(), peer: live.peer, tid: live.tid },
         _ => Name { role: random.below(2), peer: random.below(3), tid: random.below(8) },
     };

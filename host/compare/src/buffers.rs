@@ -12,7 +12,7 @@ pub struct Buffers {
     pub table: Vec<u8>,
     pub store: Vec<u8>,
     pub out: Vec<u8>,
-    /// Answer, fields or part.
+    /// Answer, deadline, fields or part.
     pub words: Vec<u64>,
 }
 

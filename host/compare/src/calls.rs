@@ -21,6 +21,8 @@ pub enum Kind {
     Abort { now: u64, of: Name, reason: u8 },
     Receive { now: u64, peer: u64 },
     Timer { now: u64 },
+    Deadline,
+    Fire { now: u64, of: Name },
     Read,
     Write,
     Separate { k: u64 },
@@ -29,7 +31,7 @@ pub enum Kind {
     Data { k: u64 },
 }
 
-/// How many octets or words of each buffer are lent; `words` are those of answer, fields or part.
+/// How many octets or words of each buffer are lent; `words` are those of answer, deadline, fields or part.
 #[derive(Clone, Copy, Debug, Default, PartialEq, Eq)]
 pub struct Sizes {
     pub table: usize,
@@ -89,6 +91,8 @@ impl fmt::Display for Kind {
             Kind::Abort { now, of, reason } => write!(f, "abort: now {now}, {of}, reason {reason}"),
             Kind::Receive { now, peer } => write!(f, "receive: now {now}, peer {peer}"),
             Kind::Timer { now } => write!(f, "timer: now {now}"),
+            Kind::Deadline => write!(f, "deadline"),
+            Kind::Fire { now, of } => write!(f, "fire: now {now}, {of}"),
             Kind::Read => write!(f, "read"),
             Kind::Write => write!(f, "write"),
             Kind::Separate { k } => write!(f, "separate: k {k}"),
@@ -103,7 +107,7 @@ impl fmt::Display for Call {
     fn fmt(&self, f: &mut fmt::Formatter) -> fmt::Result {
         let Sizes { table, store, out, words } = self.sizes;
         writeln!(f, "{}", self.kind)?;
-        writeln!(f, "  lent: table {table}, store {store}, out {out} octets, answer, fields or part {words} words")?;
+        writeln!(f, "  lent: table {table}, store {store}, out {out} octets, answer, deadline, fields or part {words} words")?;
         write!(f, "  octets ({}):", self.octets.len())?;
         self.octets.iter().try_for_each(|octet| write!(f, " {octet:02X}"))?;
         write!(f, "\n  words ({}):", self.words.len())?;

@@ -1,4 +1,4 @@
-//! Compares what both sides said and left behind, and tells the first difference.
+//! Compares what two sides said and left behind, and tells the first difference.
 
 use crate::buffers::Buffers;
 use crate::sides::Said;
@@ -21,16 +21,15 @@ pub enum Place {
 #[derive(Clone, Copy, Debug, PartialEq, Eq)]
 pub struct Difference {
     pub place: Place,
-    pub library: u64,
-    pub twin: u64,
+    /// What either side has there.
+    pub values: [u64; 2],
 }
 
 /// The first difference: in the number, then in the words, out, the table and the store.
-pub fn first(said: [Said; 2], buffers: &[Buffers; 2]) -> Option<Difference> {
-    let [library, twin] = said;
-    let [left, right] = buffers;
-    if library.number != twin.number {
-        return Some(Difference { place: Place::Number, library: library.number, twin: twin.number });
+pub fn first(said: [Said; 2], [left, right]: [&Buffers; 2]) -> Option<Difference> {
+    let values = said.map(|said| said.number);
+    if values[0] != values[1] {
+        return Some(Difference { place: Place::Number, values });
     }
     in_words(&left.words, &right.words)
         .or_else(|| in_octets(Place::Out, &left.out, &right.out))
@@ -43,7 +42,7 @@ fn in_words(left: &[u64], right: &[u64]) -> Option<Difference> {
         return None;
     }
     let at = (0..left.len()).find(|at| left[*at] != right[*at])?;
-    Some(Difference { place: Place::Word(at), library: left[at], twin: right[at] })
+    Some(Difference { place: Place::Word(at), values: [left[at], right[at]] })
 }
 
 fn in_octets(place: fn(usize) -> Place, left: &[u8], right: &[u8]) -> Option<Difference> {
@@ -51,14 +50,14 @@ fn in_octets(place: fn(usize) -> Place, left: &[u8], right: &[u8]) -> Option<Dif
         return None;
     }
     let at = (0..left.len()).find(|at| left[*at] != right[*at])?;
-    Some(Difference { place: place(at), library: left[at].into(), twin: right[at].into() })
+    Some(Difference { place: place(at), values: [left[at].into(), right[at].into()] })
 }
 
 impl fmt::Display for Place {
     fn fmt(&self, f: &mut fmt::Formatter) -> fmt::Result {
         match *self {
             Place::Number => write!(f, "the number"),
-            Place::Word(at) => write!(f, "word {at} of answer, fields or part"),
+            Place::Word(at) => write!(f, "word {at} of answer, deadline, fields or part"),
             Place::Out(at) => write!(f, "octet {at} of the output"),
             Place::Store(at) => write!(f, "octet {at} of the store (cell {}, octet {})", at / layout::CELL, at % layout::CELL),
             Place::Table(at) => match at.checked_sub(layout::HEADER) {
@@ -71,13 +70,14 @@ impl fmt::Display for Place {
     }
 }
 
-impl fmt::Display for Difference {
-    fn fmt(&self, f: &mut fmt::Formatter) -> fmt::Result {
-        let value = |value| match (self.place, value) {
+impl Difference {
+    /// In words, with the names of the sides.
+    pub fn told(&self, [left, right]: [&str; 2]) -> String {
+        let [one, other] = self.values.map(|value| match (self.place, value) {
             (Place::Number, PANIC) => "a panic".to_string(),
             _ => format!("{value} (hex {value:X})"),
-        };
-        write!(f, "{}: library {}, twin {}", self.place, value(self.library), value(self.twin))
+        });
+        format!("{}: {left} {one}, {right} {other}", self.place)
     }
 }
 
@@ -97,7 +97,8 @@ mod tests {
     fn after(change: fn(&mut Buffers)) -> Option<Difference> {
         let mut buffers = equal();
         change(&mut buffers[1]);
-        first([SAID, SAID], &buffers)
+        let [left, right] = &buffers;
+        first([SAID, SAID], [left, right])
     }
 
     #[test]
@@ -108,8 +109,8 @@ mod tests {
     #[test]
     fn another_number_is_found() {
         let said = [SAID, Said { number: 9, row: None }];
-        let found = first(said, &equal());
-        assert_eq!(found, Some(Difference { place: Place::Number, library: 0, twin: 9 }));
+        let [left, right] = &equal();
+        assert_eq!(first(said, [left, right]), Some(Difference { place: Place::Number, values: [0, 9] }));
     }
 
     #[test]
@@ -127,7 +128,8 @@ mod tests {
 
     #[test]
     fn a_difference_in_a_record_is_told_with_its_place_and_octet() {
-        let difference = Difference { place: Place::Table(624 + 176 + 6), library: 17, twin: 3 };
-        assert_eq!(difference.to_string(), "octet 806 of the table (record 1, octet 6): library 17 (hex 11), twin 3 (hex 3)");
+        let difference = Difference { place: Place::Table(624 + 176 + 6), values: [17, 3] };
+        let told = "octet 806 of the table (record 1, octet 6): library 17 (hex 11), twin 3 (hex 3)";
+        assert_eq!(difference.told(["library", "twin"]), told);
     }
 }

@@ -19,13 +19,23 @@ pub fn draw(random: &mut Random, view: View, sent: &Sent, call: &mut Call) {
     call.words.clear();
     let now = aim::time(random, view);
     call.kind = match random.below(100) {
-        0..=49 => receive(random, view, sent, now, &mut call.octets),
-        50..=67 => Kind::Timer { now: if random.percent(60) { aim::about_earliest(random, view) } else { now } },
-        68..=79 => request(random, now, &mut call.octets),
-        80..=88 => answer(random, view, now, &mut call.octets),
-        89..=97 => result(random, view, now, &mut call.octets),
+        0..=47 => receive(random, view, sent, now, &mut call.octets),
+        48..=59 => Kind::Timer { now: if random.percent(60) { aim::about_earliest(random, view) } else { now } },
+        60..=62 => Kind::Deadline,
+        63..=69 => fire(random, view, now),
+        70..=81 => request(random, now, &mut call.octets),
+        82..=89 => answer(random, view, now, &mut call.octets),
+        90..=97 => result(random, view, now, &mut call.octets),
         _ => Kind::Abort { now, of: aim::name(random, view), reason: random.octet() },
     };
+}
+
+/// A live record mostly, about its own deadline mostly: so one that isn't the earliest is fired too.
+fn fire(random: &mut Random, view: View, now: u64) -> Kind {
+    let live = view.live(random);
+    let deadline = live.map(|live| live.deadline).filter(|deadline| *deadline != 0 && random.percent(80));
+    let now = deadline.map_or(now, |deadline| aim::about(random, view, deadline));
+    Kind::Fire { now, of: aim::name_of(random, live) }
 }
 
 fn request(random: &mut Random, now: u64, data: &mut Vec<u8>) -> Kind {

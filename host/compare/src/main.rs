@@ -40,6 +40,7 @@ Usage: compare [--seed N] [--calls N] [--rows]
   --rows      only list the rows that must be reached, and make no call
   --help      this text
 
+Where a timer call fires a record, the same is done once more on copies by the calls deadline and fire, and must leave the same.
 Progress goes to the standard error. At the end each row and each outcome of the codec is listed with how often it was reached.
 Exit status: 0 all calls the same and every row reached, 1 a difference or a row never reached, 2 wrong arguments.
 

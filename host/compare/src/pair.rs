@@ -22,6 +22,8 @@ pub enum End {
 pub struct Found {
     pub number: u64,
     pub call: String,
+    /// What was compared.
+    pub names: [&'static str; 2],
     pub said: [Said; 2],
     pub difference: Difference,
     /// The table that the call was lent.
@@ -34,12 +36,18 @@ pub struct Pair {
     pub tally: Tally,
     calls: u64,
     before: Vec<u8>,
+    /// The buffers at another time, to go back to or to compare with.
+    kept: [Buffers; 2],
 }
+
+const SIDES: [&str; 2] = ["library", "twin"];
+const WAYS: [&str; 2] = ["in one call", "in two"];
 
 impl Pair {
     /// The library first and the twin second, for so many calls.
     pub fn new(sides: [Side; 2], calls: u64) -> Pair {
-        Pair { sides, buffers: Default::default(), tally: Tally::default(), calls, before: Vec::new() }
+        let (buffers, kept) = Default::default();
+        Pair { sides, buffers, tally: Tally::default(), calls, before: Vec::new(), kept }
     }
 
     /// Fills the buffers of a new session with the same random octets on both sides.
@@ -73,14 +81,38 @@ impl Pair {
         }
         self.before.clone_from(&self.buffers[0].table);
         let said = [0, 1].map(|side| asked(self.sides[side], call, &mut self.buffers[side]));
-        if let Some(difference) = differences::first(said, &self.buffers) {
-            let number = self.tally.calls + 1;
-            let table = self.before.clone();
-            return Err(End::Different(Box::new(Found { number, call: call.to_string(), said, difference, table })));
+        let [library, twin] = &self.buffers;
+        if let Some(difference) = differences::first(said, [library, twin]) {
+            return Err(self.found(self.tally.calls + 1, call, SIDES, said, difference));
         }
         self.tally.count(call.kind, said[1]);
         self.show_progress();
         Ok(said[0].number)
+    }
+
+    /// Keeps the buffers as they are.
+    pub fn keep(&mut self) {
+        for (kept, buffers) in self.kept.iter_mut().zip(&self.buffers) {
+            kept.copy_from(buffers);
+        }
+    }
+
+    /// Goes on with the buffers that were kept, and keeps those of now.
+    pub fn swap(&mut self) {
+        std::mem::swap(&mut self.buffers, &mut self.kept);
+    }
+
+    /// The number and the buffers of the library must be what one call, whose buffers were kept, left.
+    pub fn must_be_kept(&self, call: &Call, number: u64) -> Result<(), End> {
+        let said = [0, number].map(|number| Said { number, row: None });
+        match differences::first(said, [&self.kept[0], &self.buffers[0]]) {
+            Some(difference) => Err(self.found(self.tally.calls, call, WAYS, said, difference)),
+            None => Ok(()),
+        }
+    }
+
+    fn found(&self, number: u64, call: &Call, names: [&'static str; 2], said: [Said; 2], difference: Difference) -> End {
+        End::Different(Box::new(Found { number, call: call.to_string(), names, said, difference, table: self.before.clone() }))
     }
 
     fn show_progress(&self) {

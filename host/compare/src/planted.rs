@@ -6,16 +6,24 @@ use crate::differences::Place;
 use crate::pair::{End, Found, Pair};
 use crate::session::play_all;
 use crate::sides::{library, Said, Side};
-use kit::Random;
+use kit::{layout, Random};
 
 fn played(seed: u64, calls: u64, twin: Side) -> (Pair, End) {
-    let mut pair = Pair::new([library, twin], calls);
+    played_on([library, twin], seed, calls)
+}
+
+fn played_on(sides: [Side; 2], seed: u64, calls: u64) -> (Pair, End) {
+    let mut pair = Pair::new(sides, calls);
     let end = play_all(&mut Random::new(seed), &mut pair);
     (pair, end)
 }
 
 fn found(twin: Side) -> Found {
-    match played(1, 20_000, twin).1 {
+    found_on([library, twin])
+}
+
+fn found_on(sides: [Side; 2]) -> Found {
+    match played_on(sides, 1, 20_000).1 {
         End::Different(found) => *found,
         End::Enough => panic!("no difference was found"),
     }
@@ -26,6 +34,34 @@ fn changed_by_a_firing(call: &Call, buffers: &mut Buffers) -> Said {
     let said = library(call, buffers);
     if matches!(call.kind, Kind::Timer { .. }) && said.number == 0 && buffers.words[3] == 1 {
         buffers.store[1023] ^= 1;
+    }
+    said
+}
+
+/// The library, but with a later deadline.
+fn told_late(call: &Call, buffers: &mut Buffers) -> Said {
+    let said = library(call, buffers);
+    if call.kind == Kind::Deadline && said.number == 0 && buffers.words[0] == 1 {
+        buffers.words[1] += 1;
+    }
+    said
+}
+
+/// The library, but a deadline is told with another TID.
+fn told_of_another(call: &Call, buffers: &mut Buffers) -> Said {
+    let said = library(call, buffers);
+    if call.kind == Kind::Deadline && said.number == 0 && buffers.words[0] == 1 {
+        buffers.words[4] ^= 1 << 15;
+    }
+    said
+}
+
+/// The library, but a firing doesn't store its time.
+fn fired_without_its_time(call: &Call, buffers: &mut Buffers) -> Said {
+    let clock = layout::CLOCK.get(&buffers.table);
+    let said = library(call, buffers);
+    if matches!(call.kind, Kind::Fire { .. }) && said.number == 0 {
+        layout::CLOCK.set(&mut buffers.table, clock);
     }
     said
 }
@@ -55,16 +91,32 @@ fn a_changed_octet_is_found_at_the_call_that_changed_it() {
 }
 
 #[test]
+fn another_word_of_a_deadline_is_found() {
+    let found = found(told_late);
+    assert!(found.call.starts_with("deadline\n"));
+    assert_eq!(found.difference.place, Place::Word(1));
+}
+
+#[test]
+fn two_calls_that_differ_from_the_timer_are_found_where_both_sides_have_them() {
+    let found = found_on([fired_without_its_time; 2]);
+    assert!(found.call.starts_with("fire: "));
+    assert!(matches!(found.difference.place, Place::Table(0..=7)), "{}", found.difference.told(found.names));
+    let found = found_on([told_of_another; 2]);
+    assert_eq!(found.difference.told(found.names), "the number: in one call 0 (hex 0), in two 8 (hex 8)");
+}
+
+#[test]
 fn another_number_is_found() {
     let found = found(refused_with_another_number);
     assert!(found.call.starts_with("request: "));
-    assert_eq!((found.difference.library, found.difference.twin), (7, 6));
+    assert_eq!(found.difference.values, [7, 6]);
 }
 
 #[test]
 fn a_panic_is_told_as_a_difference() {
     let found = found(panics_at_a_long_pdu);
-    assert!(found.difference.to_string().ends_with("twin a panic"));
+    assert!(found.difference.told(found.names).ends_with("twin a panic"));
 }
 
 #[test]

@@ -11,11 +11,12 @@ pub fn report(seed: u64, found: &Found) -> String {
     let number = found.number;
     let _ = writeln!(told, "different: seed {seed}, call {number}; repeat it with: compare --seed {seed} --calls {number}");
     let _ = writeln!(told, "{}", found.call);
-    let _ = writeln!(told, "  numbers: library {}, twin {}", found.said[0].number, found.said[1].number);
+    let [left, right] = found.names;
+    let _ = writeln!(told, "  numbers: {left} {}, {right} {}", found.said[0].number, found.said[1].number);
     if let Some(row) = found.said[1].row {
         let _ = writeln!(told, "  row of the twin: {}", row.name());
     }
-    let _ = writeln!(told, "  {}", found.difference);
+    let _ = writeln!(told, "  {}", found.difference.told(found.names));
     tell_table(&found.table, &mut told);
     told
 }

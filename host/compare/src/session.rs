@@ -1,6 +1,6 @@
 //! One session: a fresh table, then some hundred calls that follow on each other.
 
-use crate::calls::{Call, Kind};
+use crate::calls::{Call, Kind, Name, Sizes};
 use crate::codec;
 use crate::damage;
 use crate::data;
@@ -12,6 +12,12 @@ use crate::sizes;
 use crate::view::View;
 use kit::layout;
 use kit::Random;
+use wtp::ffi::DUE;
+
+/// How many in a hundred calls are lent wrong sizes.
+const WRONG_SIZES: u64 = 2;
+/// The word of an answer that says whether a record was fired.
+const FIRED: usize = 3;
 
 pub struct Session<'a> {
     random: &'a mut Random,
@@ -64,17 +70,22 @@ impl Session<'_> {
 
     /// Makes the call that was drawn, with sizes that seldom are wrong.
     fn make(&mut self) -> Result<u64, End> {
-        self.make_with_wrong_sizes(2)
+        self.make_with_wrong_sizes(WRONG_SIZES)
     }
 
     /// Makes the call that was drawn; `chance` in a hundred is that its sizes are wrong.
     fn make_with_wrong_sizes(&mut self, chance: u64) -> Result<u64, End> {
+        self.lend(chance);
+        self.pair.play(self.call)
+    }
+
+    /// Says how much is lent, `chance` in a hundred of it wrong, and fills what a call may write.
+    fn lend(&mut self, chance: u64) {
         self.call.sizes = sizes::right(self.random, self.call.kind, self.records);
         if self.random.percent(chance) {
             sizes::change(self.random, self.call.kind, &mut self.call.sizes);
         }
         self.pair.refill(self.random);
-        self.pair.play(self.call)
     }
 
     fn fresh_table(&mut self) -> Result<(), End> {
@@ -115,7 +126,10 @@ impl Session<'_> {
         let [library, _] = &self.pair.buffers;
         let view = View::new(&library.table, self.records);
         engine::draw(self.random, view, &self.sent, self.call);
-        let number = self.make()?;
+        let number = match self.call.kind {
+            Kind::Timer { now } => self.timer(now)?,
+            _ => self.make()?,
+        };
         if number == 0 {
             self.keep_sent();
         }
@@ -132,18 +146,42 @@ impl Session<'_> {
         self.make().map(drop)
     }
 
+    /// A timer call. Where it fired a record the same is done in two calls, on what was lent to it, and must leave the same.
+    fn timer(&mut self, now: u64) -> Result<u64, End> {
+        self.lend(WRONG_SIZES);
+        self.pair.keep();
+        let number = self.pair.play(self.call)?;
+        if number == 0 && self.pair.buffers[0].words[FIRED] == 1 {
+            self.pair.swap();
+            self.deadline_and_fire(now)?;
+        }
+        Ok(number)
+    }
+
+    fn deadline_and_fire(&mut self, now: u64) -> Result<(), End> {
+        let sizes = self.call.sizes;
+        self.call.kind = Kind::Deadline;
+        self.call.sizes = Sizes { words: DUE, ..sizes };
+        self.pair.play(self.call)?;
+        let told = &self.pair.buffers[0].words;
+        self.call.kind = Kind::Fire { now, of: Name { role: told[2], peer: told[3], tid: told[4] } };
+        self.call.sizes = sizes;
+        let number = self.pair.play(self.call)?;
+        self.pair.must_be_kept(self.call, number)
+    }
+
     /// Keeps the PDU that was sent, if one was, to hand it in again later.
     fn keep_sent(&mut self) {
         let [library, _] = &self.pair.buffers;
         let length = library.words[0] as usize;
-        if length == 0 {
+        if length == 0 || self.call.kind == Kind::Deadline {
             return;
         }
         self.sent.pdu.clear();
         self.sent.pdu.extend(library.out.iter().take(length));
         self.sent.peer = match self.call.kind {
             Kind::Request { peer, .. } | Kind::Receive { peer, .. } => peer,
-            Kind::Answer { of, .. } | Kind::Result { of, .. } | Kind::Abort { of, .. } => of.peer,
+            Kind::Answer { of, .. } | Kind::Result { of, .. } | Kind::Abort { of, .. } | Kind::Fire { of, .. } => of.peer,
             _ => library.words[29],
         };
     }

@@ -15,7 +15,7 @@ const HELP: &str = "\
 Usage: gateway [SWITCHES] RESULTS.csv
 
 Answers readers over UDP from a file, until Ctrl-C. The first line says which address it listens on; then comes a line
-for each event, and a summary at the end.
+for each event, and a summary at the end. It sleeps while nothing comes and nothing is due.
 
 RESULTS.csv has the header sampler,answer,detail. The answers, and what they do:
   value    the detail is the result, such as NO2 41.2 ug/m3
@@ -62,19 +62,17 @@ fn prepare(given: &Given) -> Result<Gateway, String> {
     let samplers = book.len();
     let desk = Desk::new(common.table()?, book, patience);
     let post = Post::bind(address, common.line())?;
+    interrupt::watch();
     say::out(&format!("gateway: listening on {} with {samplers} samplers", post.local()?));
     Ok(Gateway { post, desk, quiet: given.has("--quiet") })
 }
 
 impl Gateway {
     fn run(mut self) -> u8 {
-        interrupt::watch();
         while !interrupt::stopped() {
-            let desk = &mut self.desk;
-            let log = self.post.turn(|now, packet| match packet {
-                None => desk.tick(now),
-                Some(packet) => desk.datagram(now, packet.peer, &packet.octets),
-            });
+            let log = self.post.tick(&mut self.desk);
+            self.log(&log);
+            let log = self.post.listen(&mut self.desk, None);
             self.log(&log);
         }
         let step = self.desk.interrupt(self.post.now());
@@ -83,7 +81,7 @@ impl Gateway {
         let log = self.post.empty_line();
         self.log(&log);
         let tally = self.desk.tally().to_string().replace('\n', "\ngateway: ");
-        say::out(&format!("gateway: {tally}\ngateway: {}", self.post.line()));
+        say::out(&format!("gateway: {tally}\ngateway: {}", self.post.summary()));
         0
     }
 

@@ -4,8 +4,8 @@ use kit::say;
 use link::line::{Faults, Line};
 use link::post::{address, Heard, Post};
 use link::round::GATEWAY;
-use link::step::{Packet, Step};
-use std::time::{Duration, Instant};
+use link::step::{due, earliest, Packet, Step};
+use std::time::Duration;
 use wtp::{codec, Name, Refused, Role, Settings, Shown, Table, Taken};
 use wtpdump::{Dump, Length};
 
@@ -68,9 +68,10 @@ impl Conversation {
 
     /// What is shown of a transaction until its result or its abort, or until the time is over.
     pub fn outcome(&mut self, of: Name, limit: Duration) -> Result<Vec<Shown>, String> {
-        let (began, mut all) = (Instant::now(), Vec::new());
-        while began.elapsed() < limit {
-            all.extend(self.turn()?.into_iter().filter(|shown| shown.of() == of));
+        let limit = u64::try_from(limit.as_millis()).unwrap_or(u64::MAX);
+        let (end, mut all) = (self.post.now().saturating_add(limit), Vec::new());
+        while self.post.now() < end {
+            all.extend(self.turn(end)?.into_iter().filter(|shown| shown.of() == of));
             if all.iter().any(|shown| !matches!(shown, Shown::Confirmation { .. })) {
                 break;
             }
@@ -78,11 +79,13 @@ impl Conversation {
         Ok(all)
     }
 
-    /// Fires what is due, and moves at most one datagram.
-    fn turn(&mut self) -> Result<Vec<Shown>, String> {
+    /// Fires what is due, and then waits for a datagram, until the next deadline or this time at most.
+    fn turn(&mut self, until: u64) -> Result<Vec<Shown>, String> {
         let mut step = Step::default();
         let mut shown = step.fire(&mut self.table, self.post.now());
-        match self.post.hear() {
+        self.send(step)?;
+        let mut step = Step::default();
+        match self.post.hear(earliest(&[due(&self.table), Some(until)])) {
             Heard::Datagram(packet) => shown.extend(self.receive(&packet.octets, &mut step)),
             Heard::Nothing => {}
             Heard::Closed => return Err("nothing listens at the gateway's port".into()),
@@ -146,7 +149,7 @@ mod tests {
         talk.answer(name).unwrap();
         assert_eq!(
             talk.answer(name).unwrap_err(),
-            "peer 0: the call was refused: the record's state doesn't allow the call (number 9)"
+            "peer 0: the call was refused: the record's state doesn't allow the call, or it isn't due (number 9)"
         );
         let seen: Vec<_> = talk.take_seen().into_iter().map(|seen| (seen.ours, seen.pdu)).collect();
         let theirs = [(false, vec![0, 9]), (false, vec![0x16, 0x80, 5, b'!'])];

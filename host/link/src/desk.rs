@@ -5,7 +5,7 @@ use crate::head::{self, Head};
 use crate::open::{Open, OpenList, Stage};
 use crate::payload::{escaped, Sampler};
 use crate::reason;
-use crate::step::Step;
+use crate::step::{due, earliest, End, Packet, Step};
 use crate::tally::Tally;
 use wtp::{Name, Shown, Table, Taken};
 
@@ -20,13 +20,9 @@ pub struct Desk {
     tally: Tally,
 }
 
-impl Desk {
-    pub fn new(table: Table, book: Book, patience: u64) -> Desk {
-        Desk { table, book, patience, open: OpenList::default(), tally: Tally::default() }
-    }
-
-    /// To be called often: fires timers and ends what waits without one for too long.
-    pub fn tick(&mut self, now: u64) -> Step {
+impl End for Desk {
+    /// Fires timers and ends what waits without one for too long.
+    fn tick(&mut self, now: u64) -> Step {
         let mut step = Step::default();
         for shown in step.fire(&mut self.table, now) {
             self.shown(now, shown, &mut step);
@@ -36,6 +32,21 @@ impl Desk {
         }
         self.damage(&mut step);
         step
+    }
+
+    fn hear(&mut self, now: u64, packet: &Packet) -> Step {
+        self.datagram(now, packet.peer, &packet.octets)
+    }
+
+    fn next(&self) -> Option<u64> {
+        let overdue = self.open.oldest().map(|since| since.saturating_add(self.patience));
+        earliest(&[due(&self.table), overdue])
+    }
+}
+
+impl Desk {
+    pub fn new(table: Table, book: Book, patience: u64) -> Desk {
+        Desk { table, book, patience, open: OpenList::default(), tally: Tally::default() }
     }
 
     pub fn datagram(&mut self, now: u64, peer: u16, datagram: &[u8]) -> Step {

@@ -1,8 +1,8 @@
 //! What reader and gateway share.
 //!
 //! [`round::Round`] is a reader and [`desk::Desk`] a gateway, both without socket and clock: they are given the time and
-//! the datagrams that came, and give back a [`step::Step`]. [`line::Line`] loses, doubles and delays what is sent, and
-//! [`post::Post`] is the UDP socket. What was received, and what it means, the proved library says.
+//! the datagrams that came, give back a [`step::Step`], and say how long nothing is to be done. [`line::Line`] loses, doubles and
+//! delays what is sent, and [`post::Post`] is the UDP socket, which sleeps that long. What was received, and what it means, the proved library says.
 
 #![deny(unsafe_code)]
 

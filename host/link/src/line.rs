@@ -57,6 +57,11 @@ impl Line {
     pub fn is_empty(&self) -> bool {
         self.waiting.is_empty()
     }
+
+    /// When the next packet leaves.
+    pub fn next(&self) -> Option<u64> {
+        self.waiting.keys().next().map(|(leaves, _)| *leaves)
+    }
 }
 
 impl fmt::Display for Line {
@@ -82,9 +87,10 @@ mod tests {
     #[test]
     fn without_faults_all_leave_at_once_and_in_order() {
         let mut line = sent(Faults { loss: 0, duplicate: 0, delay: 0 });
+        assert_eq!(line.next(), Some(10));
         assert!(line.leaving(9).is_empty());
         assert!(line.leaving(10).iter().map(|packet| packet.octets[0]).eq(0..100));
-        assert!(line.is_empty());
+        assert!(line.is_empty() && line.next().is_none());
     }
 
     #[test]

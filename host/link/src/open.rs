@@ -21,6 +21,13 @@ pub struct Open {
     pub stage: Stage,
 }
 
+impl Open {
+    /// Whether it waits for the other end or for the user.
+    fn waits(&self) -> bool {
+        matches!(self.stage, Stage::Verifying | Stage::Unanswered)
+    }
+}
+
 #[derive(Debug, Default)]
 pub struct OpenList(Vec<Open>);
 
@@ -39,12 +46,16 @@ impl OpenList {
         self.0.iter().find(|open| open.of == of).map(|open| open.stage)
     }
 
-    /// Takes out those that wait for the other end or for the user since this time or longer.
+    /// Takes out those that wait since this time or longer.
     pub fn take_overdue(&mut self, since: u64) -> Vec<Open> {
-        let waits = |open: &Open| matches!(open.stage, Stage::Verifying | Stage::Unanswered);
-        let (overdue, rest) = self.0.iter().partition(|open| waits(open) && open.since <= since);
+        let (overdue, rest) = self.0.iter().partition(|open| open.waits() && open.since <= since);
         self.0 = rest;
         overdue
+    }
+
+    /// Since when the one that has waited longest waits.
+    pub fn oldest(&self) -> Option<u64> {
+        self.0.iter().filter(|open| open.waits()).map(|open| open.since).min()
     }
 }
 
@@ -61,11 +72,12 @@ mod tests {
         list.set(of(2), 20, Stage::Unanswered);
         list.set(of(3), 10, Stage::Answered { damaged: false });
         list.set(of(1), 30, Stage::Verifying);
+        assert_eq!(list.oldest(), Some(20));
         assert_eq!(list.take_overdue(19), []);
         let second = Open { of: of(2), since: 20, stage: Stage::Unanswered };
         assert_eq!(list.take_overdue(29), [second]);
         assert_eq!((list.stage(of(1)), list.stage(of(2))), (Some(Stage::Verifying), None));
         list.end(of(1));
-        assert_eq!(list.take_overdue(u64::MAX), []);
+        assert_eq!((list.oldest(), list.take_overdue(u64::MAX)), (None, vec![]));
     }
 }

@@ -1,14 +1,15 @@
-//! The UDP socket of a program, with its clock, its line and the numbers of its peers.
+//! The UDP socket of a program, with its clock, its line and the numbers of its peers. It sleeps until there is something to do.
 
 use crate::line::Line;
 use crate::peers::Peers;
-use crate::step::{Packet, Step};
+use crate::step::{earliest, End, Packet, Step};
+use kit::interrupt;
 use std::io::ErrorKind;
 use std::net::{SocketAddr, ToSocketAddrs, UdpSocket};
 use std::time::{Duration, Instant};
 
-/// How long a datagram is waited for before timers are looked at again.
-const WAIT: Duration = Duration::from_millis(5);
+/// How long a socket in trouble is left alone, so that its lines don't fill a log.
+const PAUSE: Duration = Duration::from_millis(200);
 /// Any UDP datagram fits, so that one over 1,500 octets is seen as what it is and not cut.
 const LONGEST: usize = 65_536;
 
@@ -18,6 +19,7 @@ pub struct Post {
     line: Line,
     pub peers: Peers,
     buffer: Vec<u8>,
+    waits: u64,
 }
 
 /// What the socket had.
@@ -41,8 +43,8 @@ impl Post {
     pub fn bind(address: SocketAddr, line: Line) -> Result<Post, String> {
         let named = |why| format!("{address} can't be used: {why}");
         let socket = UdpSocket::bind(address).map_err(named)?;
-        socket.set_read_timeout(Some(WAIT)).map_err(named)?;
-        Ok(Post { socket, started: Instant::now(), line, peers: Peers::default(), buffer: vec![0; LONGEST] })
+        socket.set_nonblocking(true).map_err(named)?;
+        Ok(Post { socket, started: Instant::now(), line, peers: Peers::default(), buffer: vec![0; LONGEST], waits: 0 })
     }
 
     /// A socket that hears only this address, which becomes peer 0.
@@ -63,8 +65,9 @@ impl Post {
         u64::try_from(self.started.elapsed().as_millis()).unwrap_or(u64::MAX)
     }
 
-    pub fn line(&self) -> &Line {
-        &self.line
+    /// What was sent, and how often the program woke up.
+    pub fn summary(&self) -> String {
+        format!("{}; woke up {}", self.line, if self.waits == 1 { "once".into() } else { format!("{} times", self.waits) })
     }
 
     /// Puts a step's packets on the line, sends what leaves by now, and gives back the step's lines and those on sending.
@@ -83,8 +86,8 @@ impl Post {
     /// Sends what is still on the line, when it is due.
     pub fn empty_line(&mut self) -> Vec<String> {
         let mut log = Vec::new();
-        while !self.line.is_empty() {
-            std::thread::sleep(WAIT);
+        while let Some(leaves) = self.line.next() {
+            std::thread::sleep(self.still_to(leaves));
             log.extend(self.carry_out(Step::default()));
         }
         log
@@ -100,31 +103,46 @@ impl Post {
         }
     }
 
-    /// Carries out the step of this time, then that of a datagram, which isn't waited for for long; gives back the log's lines.
-    pub fn turn(&mut self, mut step: impl FnMut(u64, Option<Packet>) -> Step) -> Vec<String> {
-        let mut log = self.carry_out(step(self.now(), None));
-        match self.hear() {
-            Heard::Datagram(packet) => log.extend(self.carry_out(step(self.now(), Some(packet)))),
-            // A closed port is only no answer.
-            Heard::Nothing | Heard::Closed => {}
-            Heard::Trouble(line) => log.push(line),
-        }
-        log
+    /// Carries out what is due at this end; gives back the log's lines.
+    pub fn tick(&mut self, end: &mut impl End) -> Vec<String> {
+        let step = end.tick(self.now());
+        self.carry_out(step)
     }
 
-    /// Waits for a datagram, but not for long.
-    pub fn hear(&mut self) -> Heard {
-        match self.socket.recv_from(&mut self.buffer) {
+    /// Sleeps until something is due at this end or on the line, until the given time if that is earlier, or until a datagram or
+    /// a signal comes; carries out the datagram's step, and gives back the log's lines.
+    pub fn listen(&mut self, end: &mut impl End, until: Option<u64>) -> Vec<String> {
+        match self.hear(earliest(&[end.next(), self.line.next(), until])) {
+            Heard::Datagram(packet) => {
+                let step = end.hear(self.now(), &packet);
+                self.carry_out(step)
+            }
+            // A closed port is only no answer.
+            Heard::Nothing | Heard::Closed => Vec::new(),
+            Heard::Trouble(line) => vec![line],
+        }
+    }
+
+    /// Waits for a datagram, until this time at most; without one, until something comes. A signal ends the wait.
+    pub fn hear(&mut self, until: Option<u64>) -> Heard {
+        let limit = until.map(|until| self.still_to(until));
+        self.waits += 1;
+        match interrupt::wait(&self.socket, limit).and_then(|()| self.socket.recv_from(&mut self.buffer)) {
             Ok((length, from)) => self.datagram(length, from),
             Err(why) => match why.kind() {
-                ErrorKind::WouldBlock | ErrorKind::TimedOut | ErrorKind::Interrupted => Heard::Nothing,
+                ErrorKind::WouldBlock | ErrorKind::Interrupted => Heard::Nothing,
                 ErrorKind::ConnectionRefused => Heard::Closed,
                 _ => {
-                    std::thread::sleep(WAIT);
+                    std::thread::sleep(PAUSE);
                     Heard::Trouble(format!("nothing could be received: {why}"))
                 }
             },
         }
+    }
+
+    /// How long it is until `now` will be this time.
+    fn still_to(&self, time: u64) -> Duration {
+        Duration::from_millis(time).saturating_sub(self.started.elapsed())
     }
 
     fn datagram(&mut self, length: usize, from: SocketAddr) -> Heard {

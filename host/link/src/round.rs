@@ -3,7 +3,7 @@
 use crate::outcome::{Aborted, Cause, Outcome, Why};
 use crate::payload::Sampler;
 use crate::reason;
-use crate::step::Step;
+use crate::step::{due, earliest, End, Packet, Step};
 use wtp::{Name, Refused, Role, Shown, Table};
 
 /// The number that a reader has for its gateway.
@@ -38,14 +38,9 @@ pub struct Round {
     lingers_until: u64,
 }
 
-impl Round {
-    pub fn new(table: Table, samplers: Vec<Sampler>, manner: Manner) -> Round {
-        let outcomes = vec![None; samplers.len()];
-        Round { table, manner, samplers, outcomes, next: 0, asked: Vec::new(), lingers_until: 0 }
-    }
-
-    /// To be called often: fires timers, gives up what took too long, and asks for more samplers.
-    pub fn tick(&mut self, now: u64) -> Step {
+impl End for Round {
+    /// Fires timers, gives up what took too long, and asks for more samplers.
+    fn tick(&mut self, now: u64) -> Step {
         let mut step = Step::default();
         for shown in step.fire(&mut self.table, now) {
             self.shown(now, &shown, Cause::Timer, &mut step);
@@ -53,6 +48,23 @@ impl Round {
         self.give_up(now, &mut step);
         self.ask_more(now, &mut step);
         step
+    }
+
+    fn hear(&mut self, now: u64, packet: &Packet) -> Step {
+        self.datagram(now, &packet.octets)
+    }
+
+    /// More samplers are asked for when a record ends, which a deadline or a datagram brings about.
+    fn next(&self) -> Option<u64> {
+        let late = self.asked.iter().map(|asked| asked.since.saturating_add(self.manner.patience)).min();
+        earliest(&[due(&self.table), late, self.is_finished().then_some(self.lingers_until)])
+    }
+}
+
+impl Round {
+    pub fn new(table: Table, samplers: Vec<Sampler>, manner: Manner) -> Round {
+        let outcomes = vec![None; samplers.len()];
+        Round { table, manner, samplers, outcomes, next: 0, asked: Vec::new(), lingers_until: 0 }
     }
 
     pub fn datagram(&mut self, now: u64, datagram: &[u8]) -> Step {

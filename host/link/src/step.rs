@@ -1,6 +1,6 @@
 //! What a reader or a gateway does with one event: packets to send, and lines that say what happened.
 
-use wtp::{codec, Refused, Shown, Table, Taken};
+use wtp::{codec, Deadline, Refused, Shown, Table, Taken};
 
 /// A datagram for a peer.
 #[derive(Debug, Clone, PartialEq, Eq)]
@@ -13,6 +13,18 @@ pub struct Packet {
 pub struct Step {
     pub send: Vec<Packet>,
     pub log: Vec<String>,
+}
+
+/// A reader or a gateway, without socket and clock.
+pub trait End {
+    /// What is due at this time.
+    fn tick(&mut self, now: u64) -> Step;
+
+    /// What a datagram brings.
+    fn hear(&mut self, now: u64, packet: &Packet) -> Step;
+
+    /// When `tick` has something to do again if nothing is heard: it may be slept until then, and for ever where there is none.
+    fn next(&self) -> Option<u64>;
 }
 
 impl Step {
@@ -50,20 +62,48 @@ impl Step {
     /// Fires all records that are due, and gives back what the user is shown.
     pub fn fire(&mut self, table: &mut Table, now: u64) -> Vec<Shown> {
         let mut shown = Vec::new();
-        loop {
-            let taken = table.timer(now);
-            let fired = taken.as_ref().ok().and_then(|taken| taken.fired);
-            shown.extend(self.take(fired.map_or(0, |of| of.peer), taken));
-            if fired.is_none() {
-                return shown;
+        while let Some(Deadline { of, .. }) = self.deadline(table).filter(|due| due.at <= now) {
+            let taken = table.fire(now, of);
+            let refused = taken.is_err();
+            shown.extend(self.take(of.peer, taken));
+            if refused {
+                break;
             }
         }
+        shown
     }
+
+    /// The earliest deadline; none, and a line, where the table isn't well formed any more.
+    fn deadline(&mut self, table: &Table) -> Option<Deadline> {
+        table.deadline().unwrap_or_else(|why| {
+            self.say(format!("the next deadline isn't known: {why}"));
+            None
+        })
+    }
+}
+
+/// The earliest of the times that are there.
+pub fn earliest(times: &[Option<u64>]) -> Option<u64> {
+    times.iter().flatten().min().copied()
+}
+
+/// When a record of the table is due; in a table that isn't well formed any more, none ever is.
+pub fn due(table: &Table) -> Option<u64> {
+    table.deadline().ok().flatten().map(|due| due.at)
 }
 
 #[cfg(test)]
 mod tests {
     use super::*;
+
+    #[test]
+    fn a_damaged_table_is_told_and_nothing_is_due() {
+        let mut table = Table::kept(vec![0xFF; 800], vec![0; 1_024]);
+        let mut step = Step::default();
+        assert!(step.fire(&mut table, 0).is_empty());
+        assert!(step.log.len() == 1 && step.log[0].starts_with("the next deadline isn't known: "), "{:?}", step.log);
+        assert_eq!(due(&table), None);
+    }
 
     #[test]
     fn what_cannot_be_separated_is_named_with_its_length_and_dropped() {

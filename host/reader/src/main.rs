@@ -100,22 +100,25 @@ impl Reader {
         let log = self.post.empty_line();
         self.log(&log);
         self.progress.clear();
-        say::err(&format!("reader: {}", self.post.line()));
+        say::err(&format!("reader: {}", self.post.summary()));
         status
     }
 
     fn turn(&mut self) {
-        let round = &mut self.round;
-        let log = self.post.turn(|now, packet| match packet {
-            None => round.tick(now),
-            Some(packet) => round.datagram(now, &packet.octets),
-        });
+        let log = self.post.tick(&mut self.round);
         self.log(&log);
+        self.show_progress();
+        let log = self.post.listen(&mut self.round, self.progress.next());
+        self.log(&log);
+    }
+
+    fn show_progress(&mut self) {
         let (round, all) = (&self.round, self.samplers.len());
-        self.progress.show(self.post.now(), || match round.waiting() {
+        let text = match round.waiting() {
             0 if round.is_finished() => "reader: repeats of the last results are still answered".into(),
             waiting => format!("reader: {} of {all} samplers finished, {waiting} wait for an answer", round.finished()),
-        });
+        };
+        self.progress.show(self.post.now(), text);
     }
 
     fn log(&mut self, lines: &[String]) {

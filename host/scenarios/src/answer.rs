@@ -4,7 +4,7 @@ use crate::call::Event;
 use crate::desk::{Buffers, UNTOUCHED, UNTOUCHED_WORD};
 use crate::octets::{part, text};
 use std::ops::Range;
-use wtp::ffi::ANSWER;
+use wtp::ffi::{ANSWER, DUE};
 
 const SENT: usize = 0;
 const SHOWN: usize = 1;
@@ -14,6 +14,8 @@ const FIRST: usize = 4;
 const SECOND: usize = 16;
 const FIRED_NAME: usize = 28;
 const LAST: usize = 31;
+/// The first word of the name in a deadline.
+const DUE_NAME: usize = 2;
 
 /// An answer, and the octets that its places point into.
 pub struct Answer<'a> {
@@ -28,10 +30,20 @@ impl Answer<'_> {
             _ => self.odd(TID..TID + 1),
         };
         let fired = match event {
-            Event::Timer => self.fired(),
+            Event::Timer | Event::Fire(_) => self.fired(),
             _ => self.odd(FIRED..FIRED + 1) + &self.odd(FIRED_NAME..LAST),
         };
-        [self.sent(), tid, fired, self.shown(), self.odd(LAST..ANSWER), self.past_the_answer()].concat()
+        [self.sent(), tid, fired, self.shown(), self.odd(LAST..ANSWER), self.past(ANSWER)].concat()
+    }
+
+    /// The words of a deadline.
+    pub fn deadline(&self) -> String {
+        let told = match self.word(0) {
+            0 => "; none".to_string() + &self.odd(1..DUE),
+            1 => format!("; {} {}", self.word(1), self.name(DUE_NAME)),
+            _ => self.odd(0..DUE),
+        };
+        told + &self.past(DUE)
     }
 
     /// The octets to send; None where there are fewer.
@@ -59,7 +71,7 @@ impl Answer<'_> {
         sent + if untouched { "" } else { "; OUTPUT CHANGED PAST THE PDU" }
     }
 
-    /// The record that the timer fired, or that none was due.
+    /// The record that was fired, or that none was due.
     fn fired(&self) -> String {
         match self.word(FIRED) {
             0 => "; none due".to_string() + &self.odd(FIRED_NAME..LAST),
@@ -117,9 +129,9 @@ impl Answer<'_> {
         }
     }
 
-    /// The words that no call may touch.
-    fn past_the_answer(&self) -> String {
-        let touched = (ANSWER..self.buffers.answer.len()).filter(|place| self.word(*place) != UNTOUCHED_WORD);
+    /// Words from this one on, which the call may not touch.
+    fn past(&self, first: usize) -> String {
+        let touched = (first..self.buffers.answer.len()).filter(|place| self.word(*place) != UNTOUCHED_WORD);
         touched.map(|place| format!("; changed word {place}")).collect()
     }
 }

@@ -10,6 +10,7 @@ pub struct Call {
     pub octets: Option<Vec<u8>>,
 }
 
+/// A deadline takes no time, and its words lie in the answer that is lent.
 #[derive(Clone, Copy)]
 pub enum Event {
     Request { peer: u64, class: u64, user_ack: u64 },
@@ -18,6 +19,8 @@ pub enum Event {
     Abort(Record, u8),
     Receive { peer: u64 },
     Timer,
+    Fire(Record),
+    Deadline,
 }
 
 /// What calls go to: event, time, octets and buffers in, the number out.
@@ -31,5 +34,7 @@ pub fn library(event: Event, now: u64, octets: &[u8], lent: Lent) -> u64 {
         Event::Abort(of, reason) => ffi::abort(lent, now, of, reason),
         Event::Receive { peer } => ffi::receive(lent, now, peer, octets),
         Event::Timer => ffi::timer(lent, now),
+        Event::Fire(of) => ffi::fire(lent, now, of),
+        Event::Deadline => ffi::deadline(lent.table, lent.answer),
     }
 }

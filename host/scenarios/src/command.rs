@@ -29,6 +29,10 @@ pub enum Command {
     Look {
         end: usize,
     },
+    /// The earliest deadline.
+    Deadline {
+        end: usize,
+    },
     Call(Call),
     Codec(Case),
 }
@@ -45,6 +49,7 @@ pub fn command(line: &str) -> Result<Command, String> {
         Some("fresh") => fresh(&mut words)?,
         Some("put") => Command::Put { end: words.end()?, at: words.number("AT")?, value: words.number("VALUE")? },
         Some("look") => Command::Look { end: words.end()? },
+        Some("due") => Command::Deadline { end: words.end()? },
         Some("r") => Command::Codec(Case::Read(words.last_octets()?)),
         Some("w") => Command::Codec(Case::Write { words: values(&mut words)?, octets: words.octets()? }),
         Some("s") => Command::Codec(Case::Separate(words.last_octets()?)),
@@ -92,7 +97,7 @@ fn fresh(words: &mut Words) -> Result<Command, String> {
 }
 
 fn call(name: &str, words: &mut Words) -> Result<Call, String> {
-    if !["req", "ans", "res", "abo", "rcv", "get", "tim"].contains(&name) {
+    if !["req", "ans", "res", "abo", "rcv", "get", "tim", "fir"].contains(&name) {
         return Err(format!("there is no command {name:?}"));
     }
     let (end, now) = (words.end()?, words.number("TIME")?);
@@ -102,10 +107,11 @@ fn call(name: &str, words: &mut Words) -> Result<Call, String> {
         "res" => Event::Result(words.record()?),
         "abo" => Event::Abort(words.record()?, words.number("REASON")?),
         "tim" => Event::Timer,
+        "fir" => Event::Fire(words.record()?),
         _ => Event::Receive { peer: words.number("PEER")? },
     };
     let octets = match name {
-        "abo" | "tim" => Some(Vec::new()),
+        "abo" | "tim" | "fir" => Some(Vec::new()),
         "get" => None,
         _ => Some(words.octets()?),
     };

@@ -26,6 +26,8 @@ Usage: scenarios FILE
   rcv END TIME PEER /PDU              a PDU received
   get END TIME PEER                   the PDU that the other end sent last, received
   tim END TIME                        the timer call
+  due END                             the earliest deadline; ANSWER words are lent for it
+  fir END TIME ROLE PEER TID          fires this record
   r PDU                               reads it; what was read is then written
   w N=V .. /OCTETS                    writes the PDU of these words, whose parts lie in the octets
   s DATAGRAM                          separates it, and reads each part

@@ -54,6 +54,19 @@ fn points_past_the_store(_: Event, _: u64, _: &[u8], mut lent: Lent) -> u64 {
     0
 }
 
+/// A deadline that stores a time, writes a word too many, and tells of a record where there is none.
+fn tells_and_changes(_: Event, _: u64, _: &[u8], lent: Lent) -> u64 {
+    lent.table[0] = 1;
+    lent.answer[..6].copy_from_slice(&[0, 0, 0, 8, 0, 0]);
+    0
+}
+
+#[test]
+fn a_deadline_that_changes_something_or_has_odd_words_is_told() {
+    assert_eq!(given(tells_and_changes, "due 0"), ": ok; none; word 3 is 8; changed word 5; MORE THAN THE WORDS CHANGED");
+    assert_eq!(given(refuses_and_changes, "due 0"), ": refused 2; A REFUSED CALL CHANGED SOMETHING");
+}
+
 #[test]
 fn a_refused_call_that_changes_something_is_told() {
     assert_eq!(given(refuses_and_changes, "tim 0 10"), ": refused 2; A REFUSED CALL CHANGED SOMETHING");
@@ -138,6 +151,8 @@ fn a_line_that_is_no_command_is_named() {
         ("tim 2 10", "END can't be 2"),
         ("tim 0", "TIME is missing"),
         ("tim 0 10 5", "\"5\" is too much"),
+        ("fir 0 10 0 5", "TID is missing"),
+        ("due 0 10", "\"10\" is too much"),
         ("tim 0 -1", "TIME can't be \"-1\""),
         ("rcv 0 10 5 18", "/OCTETS can't be \"18\""),
         ("abo 0 10 0 5 7 256", "REASON can't be \"256\""),

@@ -1,7 +1,7 @@
 //! Plays a text of commands, line by line.
 
 use crate::answer::Answer;
-use crate::call::{library, Call, Engine};
+use crate::call::{library, Call, Engine, Event};
 use crate::changes::changes;
 use crate::codec;
 use crate::command::{command, Command};
@@ -40,6 +40,7 @@ impl Player {
             Command::Fresh { end, records, first_tid } => return Ok(self.fresh(end, records, first_tid)),
             Command::Put { end, at, value } => return self.put(end, at, value),
             Command::Look { end } => return self.look(end),
+            Command::Deadline { end } => return Ok(self.deadline(end)),
             Command::Call(call) => return Ok(self.call(call)),
             Command::Codec(case) => return codec::LIBRARY.told(&case),
         }
@@ -70,6 +71,21 @@ impl Player {
         let bytes = usize::try_from(ffi::table_bytes(end.records)).unwrap_or_default();
         let table = end.buffers.table.get(..bytes).filter(|table| !table.is_empty());
         table.map(look).ok_or_else(|| format!("there is no table of {} records", end.records))
+    }
+
+    /// The earliest deadline; nothing else that is lent may change.
+    fn deadline(&mut self, end: usize) -> String {
+        let sizes = self.desk.sizes(end);
+        let buffers = &mut self.desk.ends[end].buffers;
+        buffers.clean();
+        let before = buffers.clone();
+        let number = (self.engine)(Event::Deadline, 0, &[], buffers.lend(sizes));
+        if number != 0 {
+            return refused(number, before != *buffers);
+        }
+        let told = Answer { buffers, octets: &[] }.deadline();
+        let changed = before.table != buffers.table || before.store != buffers.store || before.out != buffers.out;
+        format!(": ok{told}{}", if changed { "; MORE THAN THE WORDS CHANGED" } else { "" })
     }
 
     /// Makes the call on what is lent, and keeps the PDU that it sends.

@@ -1,4 +1,5 @@
-//! A table damaged one octet at a time, every octet with each of its other values: how many the library refuses, for each field.
+//! A table damaged one octet at a time, every octet with each of its other values: how many the library refuses, for each field,
+//! in the timer call and where it is asked for the earliest deadline.
 
 mod compared;
 
@@ -12,8 +13,8 @@ const RECORDS: usize = 2;
 const OF_HEADER: [usize; 7] = [0, 8, 10, 12, 20, layout::SPARE, layout::CACHE];
 const OF_RECORD: [usize; 9] = [0, 1, 2, 4, 6, 8, 16, layout::RECORD_SPARE, layout::EXIT];
 
-/// What a timer call gives.
-type Timer = fn(Lent, u64) -> u64;
+/// A call that judges the table, and its number; it takes a time or it doesn't.
+type Judge = fn(Lent, u64) -> u64;
 
 fn fields() -> Vec<usize> {
     let of_records = (0..RECORDS).flat_map(|place| OF_RECORD.iter().map(move |at| HEADER + RECORD * place + at));
@@ -38,32 +39,32 @@ fn with_two_live(mut table: Vec<u8>) -> Vec<u8> {
 
 /// How many tables that differ from this one in this octet aren't well formed. The last time that there is lies below no
 /// clock in range, so that the others are accepted.
-fn refused(timer: Timer, table: &[u8], at: usize) -> usize {
+fn refused(judge: Judge, table: &[u8], at: usize) -> usize {
     let (mut store, mut out, mut answer) = ([0; CELL * RECORDS], [0; ffi::SENDING], [0; ffi::ANSWER]);
     // An accepted call changes its table.
     let mut damaged = table.to_vec();
     let numbers = (0..=255).map(|value| {
         damaged.copy_from_slice(table);
         damaged[at] = value;
-        timer(Lent { table: &mut damaged, store: &mut store, out: &mut out, answer: &mut answer }, LAST_TIME)
+        judge(Lent { table: &mut damaged, store: &mut store, out: &mut out, answer: &mut answer }, LAST_TIME)
     });
     numbers.filter(|number| *number == 1).count()
 }
 
-fn told(timer: Timer, table: &[u8]) -> String {
+fn told(judge: Judge, table: &[u8]) -> String {
     let fields = fields();
     let each = fields.iter().zip(&fields[1..]);
     each.map(|(from, to)| {
-        let refused: usize = (*from..*to).map(|at| refused(timer, table, at)).sum();
+        let refused: usize = (*from..*to).map(|at| refused(judge, table, at)).sum();
         format!("octets {from} to {to}: {refused} changes refused\n")
     })
     .collect()
 }
 
-fn both_told(timer: Timer) -> String {
+fn both_told(judge: Judge) -> String {
     let table = fresh();
-    let free = told(timer, &table);
-    let live = told(timer, &with_two_live(table));
+    let free = told(judge, &table);
+    let live = told(judge, &with_two_live(table));
     format!("a fresh table of two records\n{free}the same with both records live\n{live}")
 }
 
@@ -73,11 +74,16 @@ fn damage_that_is_let_through_is_not_counted() {
         lent.table[layout::SPARE] = 0;
         ffi::timer(lent, now)
     };
-    let counted: Vec<usize> = [ffi::timer as Timer, blind].iter().map(|timer| refused(*timer, &fresh(), layout::SPARE)).collect();
+    let counted: Vec<usize> = [ffi::timer as Judge, blind].iter().map(|judge| refused(*judge, &fresh(), layout::SPARE)).collect();
     assert_eq!(counted, [255, 0]);
 }
 
 #[test]
-fn the_library_refuses_the_damage_that_document_01_says() {
+fn the_timer_refuses_the_damage_that_document_01_says() {
     compare(&both_told(ffi::timer), "damage/expected.txt");
+}
+
+#[test]
+fn no_deadline_is_told_of_a_damaged_table() {
+    compare(&both_told(|lent, _| ffi::deadline(lent.table, lent.answer)), "damage/expected.txt");
 }

@@ -51,7 +51,8 @@ impl Indication {
     }
 }
 
-fn words_of(name: Name) -> [u64; 3] {
+/// Role, peer and TID as words.
+pub fn words_of(name: Name) -> [u64; 3] {
     [name.role as u64, name.peer.into(), name.tid.into()]
 }
 

@@ -9,7 +9,7 @@ use crate::words::ANSWER;
 use crate::{bounds, Lent, Row, Said};
 
 pub struct Engine<'a> {
-    pub table: Table<'a>,
+    pub table: Table<&'a mut [u8]>,
     pub now: u64,
     pub answer: Answer,
     store: &'a mut [u8],

@@ -1,4 +1,4 @@
-//! Document 01 read plainly, for comparison with the proved library and for nothing else.
+//! Document 01, and the landed requests of document 02, read plainly, for comparison with the proved library and for nothing else.
 //! The calls, their buffers and their numbers are those of include/wtp.h; the table is that of docs/TABLE.md.
 #![forbid(unsafe_code)]
 
@@ -12,6 +12,7 @@ mod fresh;
 mod initiator;
 mod items;
 mod listen;
+mod named;
 mod octets;
 mod output;
 mod pdu;
@@ -39,7 +40,7 @@ pub use reading::read;
 pub use receive::receive;
 pub use request::request;
 pub use row::Row;
-pub use timer::timer;
+pub use timer::{deadline, fire, timer};
 pub use writing::write;
 
 /// What a caller lends to a call of the engine.

@@ -161,6 +161,8 @@ rows! {
     RWaitTimeoutUserResult "responder WAIT TIMEOUT: user result refused 9",
 
     TimerNoneDue "timer: none due",
+    DeadlineTold "deadline: the earliest is told",
+    DeadlineNone "deadline: no record has one",
 
     Request1 "request refused 1",
     Request2 "request refused 2",
@@ -189,4 +191,11 @@ rows! {
     Receive11 "receive refused 11",
     Timer1 "timer refused 1",
     Timer2 "timer refused 2",
+    Deadline1 "deadline refused 1",
+    Fire1 "fire refused 1",
+    Fire2 "fire refused 2",
+    Fire3 "fire refused 3",
+    Fire8 "fire refused 8",
+    FireNoDeadline "fire refused 9, no deadline",
+    FireNotDue "fire refused 9, a later deadline",
 }

@@ -3,6 +3,7 @@
 use crate::bounds;
 use crate::octets::{array_at, put_at};
 use crate::record::{Class, Name, Record, Role, EXIT, OCTETS};
+use std::ops::{Deref, DerefMut};
 
 pub const HEADER: usize = 624;
 pub const GEN_TID: usize = 8;
@@ -13,8 +14,9 @@ pub const INTERVALS: usize = 12;
 const SPARE: usize = 92;
 const CACHE: usize = 112;
 
-pub struct Table<'a> {
-    octets: &'a mut [u8],
+/// Over octets that may be changed, or over octets that may only be read.
+pub struct Table<O> {
+    octets: O,
 }
 
 /// How many records a table of this size has, if it is one of 1 to 48 records.
@@ -23,9 +25,9 @@ pub fn records_in(octets: usize) -> Option<usize> {
     (records % OCTETS == 0 && (1..=bounds::RECORDS).contains(&(records / OCTETS))).then_some(records / OCTETS)
 }
 
-impl<'a> Table<'a> {
+impl<O: Deref<Target = [u8]>> Table<O> {
     /// The table, if it has a right size and is well formed.
-    pub fn open(octets: &'a mut [u8]) -> Option<Table<'a>> {
+    pub fn open(octets: O) -> Option<Table<O>> {
         records_in(octets.len())?;
         let table = Table { octets };
         (table.header_is_sound() && table.records_are_sound()).then_some(table)
@@ -90,41 +92,16 @@ impl<'a> Table<'a> {
         self.octets[HEADER..].chunks_exact(OCTETS).position(|octets| octets[0] == 0)
     }
 
-    fn octets_of(&mut self, place: usize) -> &mut [u8] {
-        &mut self.octets[HEADER + OCTETS * place..][..OCTETS]
-    }
-
-    pub fn put(&mut self, place: usize, record: &Record) {
-        record.encode(self.octets_of(place));
-    }
-
-    pub fn free(&mut self, place: usize) {
-        self.octets_of(place).fill(0);
-    }
-
     pub fn exit(&self, place: usize, length: u8) -> &[u8] {
         &self.octets[HEADER + OCTETS * place + EXIT..][..length.into()]
     }
 
-    /// Octets past the exit information stay.
-    pub fn put_exit(&mut self, place: usize, exit: &[u8]) {
-        put_at(self.octets_of(place), EXIT, exit);
-    }
-
     pub fn clock(&self) -> u64 {
-        u64::from_le_bytes(array_at(self.octets, 0))
-    }
-
-    pub fn set_clock(&mut self, now: u64) {
-        put_at(self.octets, 0, &now.to_le_bytes());
+        u64::from_le_bytes(array_at(&self.octets, 0))
     }
 
     pub fn gen_tid(&self) -> u16 {
-        u16::from_le_bytes(array_at(self.octets, GEN_TID))
-    }
-
-    pub fn set_gen_tid(&mut self, tid: u16) {
-        put_at(self.octets, GEN_TID, &tid.to_le_bytes());
+        u16::from_le_bytes(array_at(&self.octets, GEN_TID))
     }
 
     pub fn rcr_max(&self) -> u8 {
@@ -136,7 +113,7 @@ impl<'a> Table<'a> {
     }
 
     fn interval(&self, which: usize) -> u64 {
-        u32::from_le_bytes(array_at(self.octets, INTERVALS + 4 * which)).into()
+        u32::from_le_bytes(array_at(&self.octets, INTERVALS + 4 * which)).into()
     }
 
     pub fn interval_a(&self) -> u64 {
@@ -156,11 +133,38 @@ impl<'a> Table<'a> {
     }
 
     pub fn last_tid(&self, peer: u8) -> Option<u16> {
-        u16::from_le_bytes(array_at(self.octets, CACHE + 2 * usize::from(peer))).checked_sub(1)
+        u16::from_le_bytes(array_at(&self.octets, CACHE + 2 * usize::from(peer))).checked_sub(1)
+    }
+}
+
+impl<O: DerefMut<Target = [u8]>> Table<O> {
+    fn octets_of(&mut self, place: usize) -> &mut [u8] {
+        &mut self.octets[HEADER + OCTETS * place..][..OCTETS]
+    }
+
+    pub fn put(&mut self, place: usize, record: &Record) {
+        record.encode(self.octets_of(place));
+    }
+
+    pub fn free(&mut self, place: usize) {
+        self.octets_of(place).fill(0);
+    }
+
+    /// Octets past the exit information stay.
+    pub fn put_exit(&mut self, place: usize, exit: &[u8]) {
+        put_at(self.octets_of(place), EXIT, exit);
+    }
+
+    pub fn set_clock(&mut self, now: u64) {
+        put_at(&mut self.octets, 0, &now.to_le_bytes());
+    }
+
+    pub fn set_gen_tid(&mut self, tid: u16) {
+        put_at(&mut self.octets, GEN_TID, &tid.to_le_bytes());
     }
 
     pub fn set_last_tid(&mut self, peer: u8, tid: u16) {
-        put_at(self.octets, CACHE + 2 * usize::from(peer), &(tid + 1).to_le_bytes());
+        put_at(&mut self.octets, CACHE + 2 * usize::from(peer), &(tid + 1).to_le_bytes());
     }
 }
 

@@ -1,8 +1,9 @@
-//! The words of a PDU and their number; the words of an answer and of a part.
+//! The words of a PDU and their number; how many words an answer, a part and a deadline have.
 
 pub const FIELDS: usize = 88;
 pub const ANSWER: usize = 32;
 pub const PART: usize = 3;
+pub const DUE: usize = 5;
 pub const SETTINGS: usize = 32;
 
 pub const TYPE: usize = 0;

@@ -12,6 +12,8 @@ pub const SETTINGS: usize = 32;
 pub const FIELDS: usize = 88;
 /// Words of a part.
 pub const PART: usize = 3;
+/// Words of a deadline.
+pub const DUE: usize = 5;
 /// Octets of the store for each record.
 pub const CELL: usize = 1024;
 /// Octets of the output that the engine asks for.
@@ -55,6 +57,9 @@ extern "C" {
                    answer: *mut u64, answer_len: usize, now: u64, peer: u64, pdu: *const u8, pdu_len: usize) -> u64;
     fn wtp_timer(table: *mut u8, table_len: usize, store: *mut u8, store_len: usize, out: *mut u8, out_len: usize,
                  answer: *mut u64, answer_len: usize, now: u64) -> u64;
+    fn wtp_deadline(table: *const u8, table_len: usize, due: *mut u64, due_len: usize) -> u64;
+    fn wtp_fire(table: *mut u8, table_len: usize, store: *mut u8, store_len: usize, out: *mut u8, out_len: usize,
+                answer: *mut u64, answer_len: usize, now: u64, role: u64, peer: u64, tid: u64) -> u64;
     fn wtp_read(pdu: *const u8, pdu_len: usize, fields: *mut u64, fields_len: usize) -> u64;
     fn wtp_write(fields: *const u64, fields_len: usize, bytes: *const u8, bytes_len: usize,
                  out: *mut u8, out_len: usize, answer: *mut u64, answer_len: usize) -> u64;
@@ -112,6 +117,15 @@ pub fn receive(lent: Lent, now: u64, peer: u64, pdu: &[u8]) -> u64 {
 
 pub fn timer(lent: Lent, now: u64) -> u64 {
     engine!(wtp_timer, lent, now)
+}
+
+pub fn deadline(table: &[u8], due: &mut [u64]) -> u64 {
+    // SAFETY: as in `engine`.
+    unsafe { wtp_deadline(table.as_ptr(), table.len(), due.as_mut_ptr(), due.len()) }
+}
+
+pub fn fire(lent: Lent, now: u64, of: Record) -> u64 {
+    engine!(wtp_fire, lent, now, of.role, of.peer, of.tid)
 }
 
 pub fn read(pdu: &[u8], fields: &mut [u64]) -> u64 {

@@ -7,6 +7,7 @@
 #![deny(unsafe_code)]
 
 pub mod codec;
+mod deadline;
 #[allow(unsafe_code)]
 pub mod ffi;
 mod refused;
@@ -15,6 +16,7 @@ mod shown;
 mod table;
 mod taken;
 
+pub use deadline::Deadline;
 pub use refused::Refused;
 pub use settings::Settings;
 pub use shown::{Abort, Name, NonEmpty, Reason, Role, Shown};

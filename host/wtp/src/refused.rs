@@ -45,7 +45,7 @@ const KNOWN: [(u64, Refused, &str); 18] = [
     (6, Refused::TidInUse, "the next TID is that of a live request"),
     (7, Refused::TableFull, "no record is free"),
     (8, Refused::NoRecord, "there is no live record of that role, peer and TID"),
-    (9, Refused::NotAllowed, "the record's state doesn't allow the call"),
+    (9, Refused::NotAllowed, "the record's state doesn't allow the call, or it isn't due"),
     (10, Refused::WrongSetting, "a setting or the first TID is out of range"),
     (11, Refused::WrongLength, "a length is outside 1 to 1,500, or the datagram can't be separated or joined"),
     (101, Refused::CutShort, "the header is cut short, or a value is too wide for its place"),

@@ -1,5 +1,6 @@
 //! A table of records with all the buffers that the engine is lent.
 
+use crate::deadline::{deadline, Deadline};
 use crate::ffi::{self, Lent, Record};
 use crate::refused::{accepted, Refused};
 use crate::settings::Settings;
@@ -72,6 +73,19 @@ impl Table {
     /// Fires one due record; to be called again until none was fired.
     pub fn timer(&mut self, now: u64) -> Result<Taken, Refused> {
         accepted(ffi::timer(self.lent(), now))?;
+        self.take(&[], false)
+    }
+
+    /// The earliest deadline, of all records that have one: until then nothing is due. Nothing is changed.
+    pub fn deadline(&self) -> Result<Option<Deadline>, Refused> {
+        let mut due = [0; ffi::DUE];
+        accepted(ffi::deadline(&self.table, &mut due))?;
+        deadline(&due).ok_or(Refused::Unreadable)
+    }
+
+    /// Fires this record, which must be due.
+    pub fn fire(&mut self, now: u64, of: Name) -> Result<Taken, Refused> {
+        accepted(ffi::fire(self.lent(), now, record(of)))?;
         self.take(&[], false)
     }
 

@@ -12,7 +12,7 @@ pub struct Taken {
     pub shown: Vec<Shown>,
     /// The TID that a request was given.
     pub tid: Option<u16>,
-    /// The record that the timer fired.
+    /// The record that was fired.
     pub fired: Option<Name>,
 }
 
@@ -98,12 +98,12 @@ fn fired_name(answer: &[u64; ffi::ANSWER]) -> Option<Name> {
     }
 }
 
-fn name(role: u64, peer: u64, tid: u64) -> Option<Name> {
+pub(crate) fn name(role: u64, peer: u64, tid: u64) -> Option<Name> {
     let role = if flag(role)? { Role::Responder } else { Role::Initiator };
     Some(Name { role, peer: u16::try_from(peer).ok()?, tid: u16::try_from(tid).ok()? })
 }
 
-fn flag(word: u64) -> Option<bool> {
+pub(crate) fn flag(word: u64) -> Option<bool> {
     match word {
         0 => Some(false),
         1 => Some(true),

@@ -111,6 +111,7 @@ fn the_sizes_are_those_of_the_header() {
         ("WTP_SETTINGS", ffi::SETTINGS),
         ("WTP_FIELDS", ffi::FIELDS),
         ("WTP_PART", ffi::PART),
+        ("WTP_DUE", ffi::DUE),
         ("WTP_CELL", ffi::CELL),
         ("WTP_SENDING", ffi::SENDING),
         ("WTP_OUTPUT", ffi::OUTPUT),
@@ -118,6 +119,12 @@ fn the_sizes_are_those_of_the_header() {
     for (name, size) in sizes {
         assert_eq!(value(name), size, "{name}");
     }
+}
+
+#[test]
+fn the_words_of_a_deadline_are_in_the_order_in_which_the_wrapper_reads_them() {
+    let words = ["WTP_DUE_ANY", "WTP_DUE_AT", "WTP_DUE_ROLE", "WTP_DUE_PEER", "WTP_DUE_TID"];
+    assert!(words.iter().map(|name| value(name)).eq(0..ffi::DUE));
 }
 
 #[test]

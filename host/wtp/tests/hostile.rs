@@ -57,14 +57,15 @@ fn understood<T>(answer: &Result<T, Refused>) {
     assert!(!matches!(answer, Err(Refused::Unknown(_) | Refused::Unreadable)));
 }
 
-/// A random call of a user, or the timer.
+/// A random call of a user, the timer, or a firing.
 fn user_call(table: &mut Table, now: u64, latest: u16, dice: &mut Dice) -> Result<Taken, Refused> {
     let (of, octets) = (dice.name(latest), dice.octets());
-    match dice.below(5) {
+    match dice.below(6) {
         0 => table.request(now, of.peer, u8::try_from(dice.below(4)).unwrap(), dice.below(2) == 0, &octets),
         1 => table.answer(now, of, &octets),
         2 => table.result(now, of, &octets),
         3 => table.abort(now, of, dice.octet()),
+        4 => table.fire(now, of),
         _ => table.timer(now),
     }
 }
@@ -96,11 +97,12 @@ fn pdus_between_random_calls_are_taken_or_refused() {
     let mut dice = Dice(Random::new(0xD1CE));
     let mut table = Table::fresh(4, &SETTINGS, 0).unwrap();
     let (mut latest, mut cases) = (0, [0; 5]);
-    for step in (0..).take(PDUS) {
+    for step in (0..).take(4 * PDUS) {
         let now = step * 500;
         let pdu = dice.pdu(latest);
         for answer in [table.receive(now, dice.peer(), &pdu), user_call(&mut table, now, latest, &mut dice)] {
             understood(&answer);
+            understood(&table.deadline());
             if let Ok(taken) = answer {
                 latest = taken.tid.unwrap_or(latest);
                 taken.shown.iter().for_each(|shown| cases[case(shown)] += 1);
@@ -147,6 +149,7 @@ fn a_table_of_random_octets_is_refused() {
         let mut table = Table::kept(octets, vec![0; 1_024]);
         let before = table.clone();
         assert_eq!(table.timer(0), Err(Refused::WrongSize));
+        assert_eq!(table.deadline(), Err(Refused::WrongSize));
         assert!(table == before);
     }
 }

@@ -3,7 +3,7 @@
 mod common;
 
 use common::{initiator, responder, table, PEER, SETTINGS};
-use wtp::{Refused, Settings, Table, Taken};
+use wtp::{Name, Refused, Settings, Table, Taken};
 
 /// The call is refused so, and leaves table, store, output and answer as they were.
 fn refused(table: &mut Table, why: Refused, call: impl FnOnce(&mut Table) -> Result<Taken, Refused>) {
@@ -38,6 +38,8 @@ fn number_1_sizes_and_damaged_tables() {
     refused(&mut damaged, Refused::WrongSize, |t| t.timer(20));
     refused(&mut damaged, Refused::WrongSize, |t| t.request(20, PEER, 2, false, b"x"));
     refused(&mut damaged, Refused::WrongSize, |t| t.receive(20, PEER, &[0x16, 0x80, 0x05]));
+    refused(&mut damaged, Refused::WrongSize, |t| t.fire(20, initiator(5)));
+    assert_eq!(damaged.deadline(), Err(Refused::WrongSize));
     refused(&mut Table::kept(octets.to_vec(), vec![]), Refused::WrongSize, |t| t.timer(20));
     refused(&mut Table::kept(vec![], vec![]), Refused::WrongSize, |t| t.timer(20));
 }
@@ -52,13 +54,17 @@ fn one_damaged_octet_is_borne_or_refused() {
         octets[at] ^= 0xFF;
         let mut damaged = Table::kept(octets, store.to_vec());
         let before = damaged.clone();
+        let told = damaged.deadline();
         match damaged.timer(10) {
-            Ok(_) => continue,
-            Err(Refused::WrongSize) => not_well_formed += 1,
-            // The octet was one of the clock's.
-            Err(why) => assert_eq!(why, Refused::WrongTime),
+            Ok(_) => assert!(told.is_ok(), "octet {at}"),
+            Err(why) => {
+                // Of another refusal the octet was one of the clock's.
+                assert!(matches!(why, Refused::WrongSize | Refused::WrongTime));
+                assert_eq!(told.is_err(), why == Refused::WrongSize, "octet {at}");
+                assert!(damaged == before, "octet {at}: a buffer changed");
+                not_well_formed += usize::from(told.is_err());
+            }
         }
-        assert!(damaged == before, "octet {at}: a buffer changed");
     }
     assert!(not_well_formed > octets.len() / 4, "only {not_well_formed} of {} octets", octets.len());
 }
@@ -68,12 +74,14 @@ fn number_2_time() {
     let mut reader = with_request();
     refused(&mut reader, Refused::WrongTime, |t| t.timer(9));
     refused(&mut reader, Refused::WrongTime, |t| t.timer(1_000_000_000_001));
+    refused(&mut reader, Refused::WrongTime, |t| t.fire(9, initiator(5)));
     reader.timer(10).unwrap();
 }
 
 #[test]
 fn number_3_peer() {
     let mut reader = with_request();
+    refused(&mut reader, Refused::PeerTooLarge, |t| t.fire(10, Name { peer: 256, ..initiator(5) }));
     refused(&mut reader, Refused::PeerTooLarge, |t| t.request(10, 256, 2, false, b""));
     refused(&mut reader, Refused::PeerTooLarge, |t| t.receive(10, u16::MAX, &[0x16, 0x80, 0x05]));
 }
@@ -117,6 +125,9 @@ fn number_8_no_record() {
     let mut reader = with_request();
     refused(&mut reader, Refused::NoRecord, |t| t.answer(10, initiator(6), b""));
     refused(&mut reader, Refused::NoRecord, |t| t.abort(10, responder(5), 1));
+    refused(&mut reader, Refused::NoRecord, |t| t.fire(5_010, initiator(6)));
+    refused(&mut reader, Refused::NoRecord, |t| t.fire(5_010, responder(5)));
+    refused(&mut reader, Refused::NoRecord, |t| t.fire(5_010, initiator(0x8005)));
 }
 
 #[test]
@@ -127,6 +138,15 @@ fn number_9_state() {
     let mut gateway = with_invoke();
     gateway.result(10, responder(5), b"").unwrap();
     refused(&mut gateway, Refused::NotAllowed, |t| t.result(10, responder(5), b""));
+}
+
+#[test]
+fn number_9_not_due() {
+    let mut reader = with_request();
+    refused(&mut reader, Refused::NotAllowed, |t| t.fire(5_009, initiator(5)));
+    reader.receive(20, PEER, &[0x18, 0x80, 0x05]).unwrap();
+    assert_eq!(reader.deadline(), Ok(None), "held on");
+    refused(&mut reader, Refused::NotAllowed, |t| t.fire(1_000_000_000_000, initiator(5)));
 }
 
 #[test]

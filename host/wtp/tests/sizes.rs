@@ -1,6 +1,6 @@
-//! Slices of the codec's calls that are one element too short: number 1, whatever else is wrong, and nothing changes.
+//! Slices that are one element too short: number 1, whatever else is wrong, and nothing changes. (The engine's are in refusals.rs.)
 
-use wtp::ffi::{self, ANSWER, FIELDS, OUTPUT, PART};
+use wtp::ffi::{self, ANSWER, DUE, FIELDS, OUTPUT, PART, SETTINGS};
 
 const WRONG_SIZE: u64 = 1;
 const INVOKE: [u8; 4] = [0x0E, 0, 5, 2];
@@ -39,6 +39,21 @@ fn too_few_words_or_too_short_an_output_for_data() {
     assert_eq!(out, [7; 4]);
     assert_eq!(ffi::data(&INVOKE, &[], &answer, 0, &mut out), 0);
     assert_eq!(out, INVOKE);
+}
+
+#[test]
+fn too_few_words_for_a_deadline_or_another_size_of_the_table() {
+    let mut settings = [0; SETTINGS];
+    settings[2..22].fill(9);
+    let mut table = [7; 800];
+    assert_eq!(ffi::fresh(&mut table, &settings, 0), 0);
+    let mut due = [7; DUE + 1];
+    assert_eq!(ffi::deadline(&table, &mut due[..DUE - 1]), WRONG_SIZE);
+    assert_eq!(ffi::deadline(&table[1..], &mut due), WRONG_SIZE);
+    assert_eq!(ffi::deadline(&[], &mut due), WRONG_SIZE);
+    assert_eq!(due, [7; DUE + 1]);
+    assert_eq!(ffi::deadline(&table, &mut due), 0);
+    assert_eq!(due, [0, 0, 0, 0, 0, 7]);
 }
 
 /// Whether a call with this output and this answer is refused for its sizes and leaves both.

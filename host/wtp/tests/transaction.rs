@@ -3,7 +3,7 @@
 mod common;
 
 use common::{initiator, responder, table, PEER};
-use wtp::{Abort, NonEmpty, Reason, Shown, Table, Taken};
+use wtp::{Abort, Deadline, NonEmpty, Reason, Shown, Table, Taken};
 
 /// A reader, which requests, a gateway, which answers, and their common clock.
 struct Link {
@@ -177,6 +177,31 @@ fn the_timer_resends_and_then_aborts() {
     let abort = Shown::Abort { of: initiator(5), by: Abort::Provider(Reason::NoResponse) };
     let given_up = Taken { shown: vec![abort], fired: Some(initiator(5)), ..nothing };
     assert_eq!(reader.timer(15_000).unwrap(), given_up);
+}
+
+#[test]
+fn the_timer_is_the_earliest_deadline_and_its_firing() {
+    let mut reader = table(2);
+    assert_eq!(reader.deadline(), Ok(None));
+    reader.request(0, PEER, 2, false, b"").unwrap();
+    reader.request(0, PEER, 1, false, b"").unwrap();
+    assert_eq!(reader.deadline(), Ok(Some(Deadline { at: 4_000, of: initiator(6) })));
+    let mut whole = reader.clone();
+    let fired = reader.fire(4_000, initiator(6)).unwrap();
+    assert_eq!((fired.sent.as_deref(), fired.fired), (Some(&[0x0F, 0x00, 0x06, 0x01][..]), Some(initiator(6))));
+    assert_eq!(whole.timer(4_000), Ok(fired));
+    assert!(whole == reader);
+    assert_eq!(reader.deadline(), Ok(Some(Deadline { at: 5_000, of: initiator(5) })));
+}
+
+#[test]
+fn a_due_record_that_is_not_the_earliest_may_be_fired() {
+    let mut reader = table(2);
+    reader.request(0, PEER, 2, false, b"").unwrap();
+    reader.request(0, PEER, 1, false, b"").unwrap();
+    assert_eq!(reader.fire(5_000, initiator(5)).unwrap().fired, Some(initiator(5)));
+    assert_eq!(reader.deadline(), Ok(Some(Deadline { at: 4_000, of: initiator(6) })), "in the past, and still there");
+    assert_eq!(reader.timer(5_000).unwrap().fired, Some(initiator(6)));
 }
 
 #[test]

@@ -95,7 +95,7 @@ fn an_interrupted_round_keeps_what_it_knows_and_aborts_the_rest() {
     let entries = [value(0), Entry::Silent, Entry::Empty, value(3), value(4)];
     let mut world = World::new(&entries, 3, MANNER, NO_FAULTS, NO_FAULTS);
     while world.round.finished() < 2 {
-        world.tick();
+        world.wake();
     }
     let step = world.round.interrupt(world.now);
     let live = [0x21, 0x7F, 0xF9, reason::STOPPED];

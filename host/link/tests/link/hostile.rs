@@ -7,7 +7,7 @@ use link::desk::Desk;
 use link::outcome::{Kind, Outcome, Why};
 use link::payload::Sampler;
 use link::round::Round;
-use link::step::Packet;
+use link::step::{End, Packet};
 
 fn random_octets(random: &mut Random) -> Vec<u8> {
     let longest = if random.percent(5) { 1_600 } else { 12 };
@@ -32,7 +32,7 @@ fn random_datagrams_leave_the_values_as_they_are() {
     let mut world = World::new(&entries, 16, MANNER, NO_FAULTS, NO_FAULTS);
     let mut random = Random::new(5);
     while !world.round.is_finished() {
-        world.tick();
+        world.wake();
         for peer in [1, 2, 255] {
             world.desk.datagram(world.now, peer, &random_octets(&mut random));
         }

@@ -2,5 +2,6 @@
 
 mod conversation;
 mod hostile;
+mod sleeping;
 mod sockets;
 mod world;

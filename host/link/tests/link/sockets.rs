@@ -7,6 +7,7 @@ use link::line::Line;
 use link::outcome::Kind;
 use link::post::{address, Heard, Post};
 use link::round::{Manner, Round};
+use link::step::End;
 use std::net::{SocketAddr, UdpSocket};
 
 fn free() -> SocketAddr {
@@ -19,14 +20,10 @@ fn line() -> Line {
 
 /// Waits for the next datagram; all that is sent on loopback arrives.
 fn heard(post: &mut Post) -> Vec<u8> {
-    for _ in 0..1_000 {
-        match post.hear() {
-            Heard::Datagram(packet) => return packet.octets,
-            Heard::Nothing | Heard::Closed => {}
-            Heard::Trouble(line) => panic!("{line}"),
-        }
+    match post.hear(None) {
+        Heard::Datagram(packet) => packet.octets,
+        other => panic!("{other:?}"),
     }
-    panic!("nothing was heard")
 }
 
 #[test]
@@ -39,16 +36,12 @@ fn a_round_over_loopback() {
     let samplers = (0..4).map(sampler).collect();
     let post = Post::towards(gateway.0.local().unwrap(), line()).unwrap();
     let mut reader = (post, Round::new(table(4), samplers, MANNER));
+    // One after the other, each end is looked at without a wait.
     while !reader.1.is_finished() {
-        let log = reader.0.turn(|now, packet| match packet {
-            None => reader.1.tick(now),
-            Some(packet) => reader.1.datagram(now, &packet.octets),
-        });
+        let log = [reader.0.tick(&mut reader.1), reader.0.listen(&mut reader.1, Some(0))].concat();
         assert!(log.is_empty(), "{log:?}");
-        gateway.0.turn(|now, packet| match packet {
-            None => gateway.1.tick(now),
-            Some(packet) => gateway.1.datagram(now, packet.peer, &packet.octets),
-        });
+        gateway.0.tick(&mut gateway.1);
+        gateway.0.listen(&mut gateway.1, Some(0));
     }
     let kinds: Vec<_> = reader.1.outcomes().iter().flatten().map(|outcome| outcome.kind()).collect();
     assert_eq!(kinds, [Kind::Value, Kind::EmptyResult, Kind::Abort, Kind::Abort]);
@@ -72,15 +65,25 @@ fn a_closed_port_is_only_no_answer() {
     let mut round = Round::new(table(1), vec![sampler(0)], manner);
     let step = round.tick(post.now());
     assert!(post.carry_out(step).is_empty());
-    assert_eq!(post.hear(), Heard::Closed);
+    assert_eq!(post.hear(None), Heard::Closed);
     while !round.is_finished() {
-        let log = post.turn(|now, packet| {
-            assert_eq!(packet, None);
-            round.tick(now)
-        });
+        let log = [post.tick(&mut round), post.listen(&mut round, None)].concat();
         assert!(log.is_empty(), "{log:?}");
     }
     assert!(round.outcomes().iter().flatten().all(|outcome| outcome.kind() == Kind::NoAnswer));
+}
+
+#[test]
+fn a_wait_ends_at_its_time_and_is_counted() {
+    let mut post = Post::bind(free(), line()).unwrap();
+    let desk = &mut Desk::new(table(1), Book::default(), PATIENCE);
+    assert_eq!(desk.next(), None, "nothing is due, so that only a datagram or a signal wakes it");
+    post.listen(desk, Some(0));
+    assert!(post.summary().ends_with("; woke up once"), "{}", post.summary());
+    let time = post.now() + 20;
+    assert_eq!(post.hear(Some(time)), Heard::Nothing);
+    assert!(post.now() >= time);
+    assert!(post.summary().ends_with("; woke up 2 times"), "{}", post.summary());
 }
 
 #[test]
@@ -89,10 +92,10 @@ fn the_257th_peer_is_refused_and_the_others_are_still_heard() {
     (0..256).for_each(|port| assert!(post.peers.number(SocketAddr::from(([127, 0, 0, 2], port))).is_some()));
     let peer = UdpSocket::bind(free()).unwrap();
     peer.send_to(&[1], post.local().unwrap()).unwrap();
-    let refused = (0..1_000).map(|_| post.hear()).find(|heard| *heard != Heard::Nothing);
+    let refused = post.hear(None);
     let from = peer.local_addr().unwrap();
     let line = format!("a datagram of 1 octets from {from} was dropped: there are 256 peers already");
-    assert_eq!(refused, Some(Heard::Trouble(line)));
+    assert_eq!(refused, Heard::Trouble(line));
 }
 
 #[test]

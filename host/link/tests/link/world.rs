@@ -1,4 +1,4 @@
-//! A reader and a gateway on a fake clock, with a line each way.
+//! A reader and a gateway on a fake clock, with a line each way. Either sleeps until its own next time or until a packet comes.
 
 use link::book::{Book, Entry};
 use link::desk::Desk;
@@ -6,7 +6,7 @@ use link::line::{Faults, Line};
 use link::outcome::Outcome;
 use link::payload::{Concentration, Sampler};
 use link::round::{Manner, Round};
-use link::step::Step;
+use link::step::{earliest, End, Packet, Step};
 use wtp::{Settings, Table};
 
 pub const INTERVAL: u64 = 300;
@@ -16,6 +16,7 @@ pub const PATIENCE: u64 = 3 * W;
 pub const MANNER: Manner = Manner { user_ack: true, patience: PATIENCE, linger: W };
 pub const NO_FAULTS: Faults = Faults { loss: 0, duplicate: 0, delay: 0 };
 
+/// What happens within this time happens at its end.
 const TICK: u64 = 60;
 /// A peer number that isn't the reader's number for the gateway.
 const READER: u16 = 9;
@@ -49,37 +50,55 @@ impl World {
         for (number, entry) in entries.iter().enumerate() {
             assert!(book.enter(sampler(number), entry.clone()));
         }
-        World {
+        let mut world = World {
             round: Round::new(table(records), (0..entries.len()).map(sampler).collect(), manner),
-            desk: Desk::new(table(records), book, PATIENCE),
+            // A gateway has more patience than its readers.
+            desk: Desk::new(table(records), book, 2 * PATIENCE),
             now: 0,
             to_desk: Line::new(to_desk, 1),
             to_round: Line::new(to_round, 2),
-        }
+        };
+        world.tick_round();
+        world
     }
 
-    pub fn tick(&mut self) {
-        self.now += TICK;
-        let step = self.round.tick(self.now);
-        self.round_sends(step);
-        let step = self.desk.tick(self.now);
-        self.desk_sends(step);
+    /// Sleeps until an end wakes up by itself or a packet comes; only an end that woke up is looked at.
+    pub fn wake(&mut self) {
+        let (round, desk) = (self.round.next(), self.desk.next());
+        let next = earliest(&[round, desk, self.to_desk.next(), self.to_round.next()]);
+        self.now = next.expect("both ends sleep for ever").max(self.now + TICK);
+        let is_due = |next: Option<u64>| next.map_or(false, |next| next <= self.now);
+        let (mut round, mut desk) = (is_due(round), is_due(desk));
         for packet in self.to_desk.leaving(self.now) {
-            let step = self.desk.datagram(self.now, READER, &packet.octets);
+            let step = self.desk.hear(self.now, &Packet { peer: READER, ..packet });
             self.desk_sends(step);
+            desk = true;
         }
         for packet in self.to_round.leaving(self.now) {
-            let step = self.round.datagram(self.now, &packet.octets);
+            let step = self.round.hear(self.now, &packet);
             self.round_sends(step);
+            round = true;
+        }
+        if desk {
+            let step = self.desk.tick(self.now);
+            self.desk_sends(step);
+        }
+        if round {
+            self.tick_round();
         }
     }
 
-    /// Until the round is over, which patience promises.
+    fn tick_round(&mut self) {
+        let step = self.round.tick(self.now);
+        self.round_sends(step);
+    }
+
+    /// Until the round is over, which patience promises, and its last packet has come.
     pub fn run(&mut self) -> Vec<Outcome> {
         let samplers = u64::try_from(self.round.outcomes().len()).unwrap();
         let end = self.now + (samplers + 2) * (PATIENCE + W);
-        while !self.round.is_over(self.now) {
-            self.tick();
+        while !self.round.is_over(self.now) || !self.to_desk.is_empty() {
+            self.wake();
             assert!(self.now < end, "the round doesn't end");
         }
         self.round.outcomes().iter().map(|outcome| outcome.clone().expect("each has its outcome")).collect()

@@ -6,6 +6,7 @@ mod reader_and_writer;
 mod refusals;
 mod rows;
 mod tables;
+mod timer;
 mod transactions;
 
 use crate::{Lent, Said};
@@ -106,6 +107,23 @@ impl End {
 
     pub fn timer(&mut self, now: u64) -> Said {
         self.call(|lent| crate::timer(lent, now))
+    }
+
+    pub fn fire(&mut self, now: u64, name: [u64; 3]) -> Said {
+        self.call(|lent| crate::fire(lent, now, name[0], name[1], name[2]))
+    }
+
+    /// The words of the earliest deadline, or the number; only the words are written.
+    pub fn deadline(&self) -> Result<[u64; 5], u64> {
+        let mut due = [7; 6];
+        let said = crate::deadline(&self.table, &mut due);
+        let [any, at, role, peer, tid, past] = due;
+        assert!(past == 7 && (said.number == 0 || due == [7; 6]), "{said:?} wrote too much");
+        if said.number == 0 {
+            Ok([any, at, role, peer, tid])
+        } else {
+            Err(said.number)
+        }
     }
 
     /// The PDU that the last accepted call sent.

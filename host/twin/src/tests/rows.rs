@@ -55,6 +55,8 @@ fn reach_records(reached: &mut BTreeSet<Row>) {
         for end in ends_in(state) {
             reached.extend(pdus.iter().map(|pdu| end.clone().receive(1, PEER, pdu).row));
             reached.insert(end.clone().timer(1).row);
+            reached.insert(end.clone().fire(0, name).row);
+            reached.insert(crate::deadline(&end.table, &mut [0; 5]).row);
             reached.insert(end.clone().answer(1, name, &[]).row);
             reached.insert(end.clone().answer(1, name, &[1]).row);
             reached.insert(end.clone().result(1, name, &[1]).row);
@@ -81,6 +83,7 @@ fn reach_without_record(reached: &mut BTreeSet<Row>) {
             reached.insert(end.clone().request(1, PEER, class, 0, &[]).row);
         }
         reached.insert(end.clone().timer(1).row);
+        reached.insert(crate::deadline(&end.table, &mut [0; 5]).row);
     }
 }
 
@@ -99,7 +102,12 @@ fn reach_refusals(reached: &mut BTreeSet<Row>) {
         }
         reached.insert(end.clone().abort(now, name, 0).row);
         reached.insert(end.clone().timer(now).row);
+        reached.insert(end.clone().fire(now, name).row);
+        reached.insert(crate::deadline(&end.table, &mut [0; 5]).row);
     }
+    let mut held_on = good.clone();
+    held_on.record(0).copy_from_slice(&live(2));
+    reached.insert(held_on.fire(0, [INITIATOR, PEER, 5]).row);
     let mut taken = good.clone();
     taken.request(0, PEER, 1, 0, &[]);
     reached.insert(taken.clone().request(0, PEER, 1, 0, &[]).row);

@@ -1,0 +1,2 @@
+pub mod Deadlines
+pub mod InTwo

@@ -1,0 +1,1 @@
+// The timer call in two: laws alone.
