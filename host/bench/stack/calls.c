@@ -26,9 +26,9 @@ static void set_ready(const char *name, void (*function)(void), const uint64_t *
 #define READY(wtp_call, ...) set_ready(#wtp_call, (void (*)(void))wtp_call, WORDS(__VA_ARGS__))
 #define AT(pointer) (uint64_t)(uintptr_t)(pointer)
 #define PART_OF(octets) AT((octets)->at), (octets)->length
-#define LENT                                                                                          \
-    AT(lent.table), wtp_table_bytes(lent.records), AT(lent.store), lent.records *WTP_CELL, AT(lent.out), \
-        sizeof lent.out, AT(lent.answer), lent.answer_len
+#define LENT                                                                                   \
+    AT(lent.table), wtp_table_bytes(lent.records), AT(lent.store), (lent.records * WTP_CELL), \
+        AT(lent.out), sizeof lent.out, AT(lent.answer), lent.answer_len
 
 void table_bytes(uint64_t records)
 {
@@ -97,7 +97,8 @@ void read_part(const struct octets *datagram, uint64_t k)
 
 void shown_data(const struct octets *datagram, uint64_t k)
 {
-    READY(wtp_data, PART_OF(datagram), AT(lent.store), sizeof lent.store, AT(lent.answer), lent.answer_len, k, AT(lent.out), sizeof lent.out);
+    READY(wtp_data, PART_OF(datagram), AT(lent.store), sizeof lent.store, AT(lent.answer), lent.answer_len, k,
+          AT(lent.out), sizeof lent.out);
 }
 
 void stop_with(const char *where, const char *what)
