@@ -15,7 +15,7 @@ abbrev pub endAfter : (ℕ → ℕ) → Got → ℕ
 endAfter rest Cut = 0
 endAfter rest (One item con next) = pick con (rest next) next
 
--- the place after the items from `at` on, `left` still permitted; 0 for D3, and 1 for D4, "a seventeenth item"
+-- the place after the items from `at` on, `left` still permitted; 0 for D3, and 1 for D4, "the sixteenth, complete, has CON set"
 unfoldable pub endFrom : ℕ → List ℕ → ℕ → ℕ
 endFrom zero s at = 1
 endFrom (suc left) s at = endAfter (endFrom left s) (itemAt s at)

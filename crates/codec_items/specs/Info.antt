@@ -1,4 +1,4 @@
--- The first Info item of a list of items (01, "The state tables").
+-- The first Info item of a list of items.
 use Prim.Native.Nat.{ℕ, zero, suc, _+_}
 use mathlib.Core.List.{List}
 use lib.ListN.{getD}

@@ -2,9 +2,8 @@
 ghost use mathlib.Core.Path.{_≡_};
 ghost use Prim.Native.Nat.{_≤_, _<_};
 ghost use lib.ListN.{length};
-ghost use Rattle.codec_items.specs.Items.{itemOf, itemAt, noItems, walkFrom};
+ghost use Rattle.codec_items.specs.Items.{itemOf, itemAt, noItems};
 ghost use Rattle.codec_items.specs.Found.{endFrom, infoPlace, infoIn};
-use base_numbers::Malformed;
 use base_numbers::Verdict;
 
 // An item as it lies in its octets: identity, long form or short, and where its data stands.
@@ -89,33 +88,6 @@ pub fn none(verdict: Verdict, end: usize) -> Items
             start: 0,
             len: 0,
         }; 16],
-    }
-}
-
-// The items from `at` on, of which `left` are still permitted, after those of `read`.
-pub fn walk(s: &[u8], at: usize, left: usize, read: [Item; 16]) -> Items
-    requires { ⌜ left ≤ 16 ⌝ }
-    ensures { λ r. ⌜ r ≡ walkFrom left (now (s .entry)) at read ⌝ }
-{
-    if left == 0 {
-        return none(Verdict::Bad(Malformed::D4), 0);
-    }
-    match item_at(s, at) {
-        Got::Cut => none(Verdict::Bad(Malformed::D3), 0),
-        Got::One { item, con, next } => {
-            let mut list = read;
-            list[16 - left] = item;
-            if con {
-                walk(s, next, left - 1, list)
-            } else {
-                Items {
-                    verdict: Verdict::Sound,
-                    count: 17 - left,
-                    end: next,
-                    list: list,
-                }
-            }
-        }
     }
 }
 

@@ -14,6 +14,7 @@ use Rattle.codec_pdu.specs.declared.Brief.{Brief}
 use Rattle.codec_pdu.specs.declared.Kind.{Kind}
 use Rattle.codec_pdu.specs.declared.Kind.the-variants.{Wrong}
 use Rattle.codec_reading.specs.declared.Head.{Head}
+use Rattle.codec_reading.specs.Read.{headOf}
 
 -- the place after the header and its items; 0 for D3 and 1 for D4
 unfoldable pub endAfter : List ℕ → Head → ℕ
@@ -41,3 +42,7 @@ restBrief s h end =
 -- what the place after the items leaves: a fault of theirs, else the user data
 unfoldable pub endedBrief : List ℕ → Head → ℕ → Brief
 endedBrief s h end = pick (eqb end 0) (wrongBrief (Wrong D3)) (pick (eqb end 1) (wrongBrief (Wrong D4)) (restBrief s h end))
+
+-- the place of the first item; 0 where no item follows the header
+unfoldable pub itemsAt : List ℕ → ℕ
+itemsAt s = pick (eqb (length s) 0) 0 (pick (headOf s .con) (headOf s .end) 0)

@@ -3,16 +3,13 @@ ghost use mathlib.Core.Path.{_≡_};
 ghost use Prim.Native.Nat.{_≤_, _<_};
 ghost use lib.ListN.{length};
 ghost use Rattle.codec_pdu.specs.Brief.{briefOf};
-ghost use Rattle.codec_reading.specs.Read.{kindOf, headOf, longHead, goodHead, badHead, finished, itemsAfter, pduOf};
-ghost use Rattle.codec_reading.specs.Brief.{endAfter, infoAfter, wholeBrief, endedBrief};
+ghost use Rattle.codec_reading.specs.Read.{kindOf, headOf, longHead, goodHead, badHead, pduOf};
+ghost use Rattle.codec_reading.specs.Brief.{endAfter, infoAfter, wholeBrief, endedBrief, itemsAt};
 use base_numbers::Malformed;
 use base_numbers::Refusal;
-use base_numbers::Verdict;
 use codec_items::Info;
-use codec_items::Items;
 use codec_pdu::Brief;
 use codec_pdu::Kind;
-use codec_pdu::Pdu;
 
 // The fixed header: the kind, whether items follow, the TID and the place after it.
 pub struct Head {
@@ -166,78 +163,6 @@ fn head_of(s: &[u8]) -> Head
     long_head(s)
 }
 
-// The PDU of a sound header and the items after it.
-fn finish(s: &[u8], head: Head, found: Items) -> Pdu
-    requires { ⌜ found .end ≤ length (now s) ⌝ }
-    ensures { λ r. ⌜ r ≡ finished (now (s .entry)) head found ⌝ }
-{
-    let verdict = found.verdict;
-    let kind = head.kind;
-    let list = found.list;
-    let end = found.end;
-    match verdict {
-        Verdict::Bad(d) => codec_pdu::blank(Kind::Wrong(d)),
-        Verdict::Sound => {
-            let left = s.len() - end;
-            if codec_pdu::bare(kind) {
-                if left == 0 {
-                    Pdu {
-                        kind: kind,
-                        tid: head.tid,
-                        count: found.count,
-                        list: list,
-                        start: 0,
-                        len: 0,
-                    }
-                } else {
-                    codec_pdu::blank(Kind::Wrong(Malformed::D7))
-                }
-            } else {
-                Pdu {
-                    kind: kind,
-                    tid: head.tid,
-                    count: found.count,
-                    list: list,
-                    start: end,
-                    len: left,
-                }
-            }
-        }
-    }
-}
-
-// The items that follow a sound header.
-fn items_after(s: &[u8], head: Head) -> Items
-    ensures { λ r. ⌜ r ≡ itemsAfter (now (s .entry)) head ⌝ }
-{
-    let none = codec_items::none(Verdict::Sound, head.end);
-    if head.con {
-        let list = none.list;
-        codec_items::walk(s, head.end, 16, list)
-    } else {
-        none
-    }
-}
-
-// The PDU that a slice holds, or how it is malformed, or refusal 11.
-pub fn read(s: &[u8]) -> Pdu
-    ensures { λ r. ⌜ r ≡ pduOf (now (s .entry)) ⌝ }
-{
-    if s.len() == 0 {
-        return codec_pdu::blank(Kind::Refused(Refusal::WrongLength));
-    }
-    if base_layout::DATAGRAM_BOUND < s.len() {
-        return codec_pdu::blank(Kind::Refused(Refusal::WrongLength));
-    }
-    let head = head_of(s);
-    let kind = head.kind;
-    if codec_pdu::sound(kind) {
-        finish(s, head, items_after(s, head))
-    } else {
-        codec_pdu::blank(kind)
-    }
-}
-
 // The place after the items that follow a sound header.
 fn end_after(s: &[u8], head: Head) -> usize
     ensures { λ r. ⌜ r ≡ endAfter (now (s .entry)) head ⌝ }
@@ -314,4 +239,15 @@ pub fn brief(s: &[u8]) -> Brief
     } else {
         codec_pdu::blank_brief(kind)
     }
+}
+
+// The place of the first item, 0 where there is none.
+pub fn items_at(s: &[u8]) -> usize
+    ensures { λ r. ⌜ r ≡ itemsAt (now (s .entry)) ⌝ }
+{
+    if s.len() == 0 {
+        return 0;
+    }
+    let head = head_of(s);
+    if head.con { head.end } else { 0 }
 }
