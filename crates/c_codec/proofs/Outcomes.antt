@@ -12,9 +12,12 @@ use Rattle.base_numbers.specs.declared.Refusal.the-variants.{WrongSize}
 use Rattle.codec_pdu.specs.Pdu.{soundOf}
 use Rattle.codec_pdu.specs.declared.Kind.{Kind}
 use Rattle.codec_pdu.specs.declared.Kind.the-variants.{Invoke, Result, Ack, Abort, SegInvoke, SegResult, Nack, Wrong, Refused}
-use Rattle.codec_pdu.specs.declared.Pdu.{Pdu}
+use Rattle.codec_pdu.specs.Brief.{briefOf}
+use Rattle.codec_pdu.specs.declared.Brief.{Brief}
 use Rattle.codec_reading.specs.Read.{pduOf}
-use Rattle.codec_words.specs.Words.{wordsOf}
+use Rattle.codec_reading.specs.Brief.{itemsAt}
+use Rattle.codec_words.specs.Listed.{wordsFrom}
+use Rattle.c_codec.proofs.ReadWords.{read-words}
 use Rattle.codec_writing.specs.Writing.{Done, done, written, writtenAnswer, outputAfter}
 use Rattle.codec_writing.specs.declared.Written.{Written}
 use Rattle.table_fresh.specs.Fresh.{Left, left, leftBy, freshAnswer, tableAfterFresh}
@@ -39,14 +42,22 @@ module _ (s fields : List ℕ) where
   unfolding readNumber fieldsAfter
   read-short h = rw (lt-ltb (length fields) 88 h) (refl, refl)
 
-  module _ (h : 88 ≤ length fields) (p : Pdu) (e : p ≡ pduOf s) where
-    pub read-sound : soundOf (p .kind) ≡ true → (0 ≡ readNumber s fields) × (put fields 0 (wordsOf p) ≡ fieldsAfter s fields)
-    unfolding readNumber fieldsAfter
-    read-sound k = rw (le-ltb (length fields) 88 h, ← e, k) (sound-accepted (p .kind) k, refl)
+  module _ (h : 88 ≤ length fields) (b : Brief) (e : b ≡ briefOf (pduOf s)) where
+    same-kind : b .kind ≡ pduOf s .kind
+    unfolding briefOf
+    same-kind = ap (λ (x : Brief). x .kind) e
 
-    pub read-unsound : soundOf (p .kind) ≡ false → (kindNumber (p .kind) ≡ readNumber s fields) × (fields ≡ fieldsAfter s fields)
+    pub read-sound : soundOf (b .kind) ≡ true → (0 ≡ readNumber s fields) × (put fields 0 (wordsFrom s (itemsAt s) b) ≡ fieldsAfter s fields)
     unfolding readNumber fieldsAfter
-    read-unsound k = rw (le-ltb (length fields) 88 h, ← e, k) (refl, refl)
+    read-sound k =
+        let sound : soundOf (pduOf s .kind) ≡ true = rw same-kind at k in
+        rw (le-ltb (length fields) 88 h, sound) (sound-accepted (pduOf s .kind) sound, rw e (ap (put fields 0) (read-words s sound)))
+
+    pub read-unsound : soundOf (b .kind) ≡ false → (kindNumber (b .kind) ≡ readNumber s fields) × (fields ≡ fieldsAfter s fields)
+    unfolding readNumber fieldsAfter
+    read-unsound k =
+        let unsound : soundOf (pduOf s .kind) ≡ false = rw same-kind at k in
+        rw (le-ltb (length fields) 88 h, unsound) (ap kindNumber same-kind, refl)
 
 -- the writer's equation, part by part
 pub writing : (fields bytes out : List ℕ) (a : Written) (o : List ℕ) → done a o ≡ written fields bytes out → (a ≡ writtenAnswer fields bytes out) × (o ≡ outputAfter fields bytes out)

@@ -46,10 +46,10 @@ pub fn read(octets: &[u8], fields: &mut [u64]) -> u64
     if fields.len() < 88 {
         return base_numbers::number(Refusal::WrongSize);
     }
-    let p = codec_reading::read(octets);
-    let kind = p.kind;
+    let b = codec_reading::brief(octets);
+    let kind = b.kind;
     if codec_pdu::sound(kind) {
-        codec_words::store_fields(fields, p);
+        codec_words::store_fields(fields, octets, codec_reading::items_at(octets), b);
         return 0;
     }
     number_of(kind)

@@ -12,23 +12,8 @@ use Rattle.base_lists.specs.Seq.{pick}
 use Rattle.codec_items.specs.declared.Item.{Item}
 use Rattle.codec_items.specs.declared.Got.{Got}
 use Rattle.codec_items.specs.declared.Got.the-variants.{One, Cut}
+use Rattle.codec_items.specs.Forms.{Short, Long}
 use Rattle.codec_items.specs.Items.{itemAt, walkFrom, afterItem}
-
--- an item of the short form at `at`: the last two bits of its octet are its length
-pub record Short (s : List ℕ) (at : ℕ) (it : Item) (con : Bool) (next : ℕ) : Type 0 where
-  pub form : getD s at 0 / 4 % 2 ≡ 0
-  pub item : it ≡ record { identity = getD s at 0 / 8 % 16; long = false; start = at + 1; len = getD s at 0 % 4 }
-  pub more : con ≡ leb 128 (getD s at 0)
-  pub ends : next ≡ at + 1 + getD s at 0 % 4
-  pub inside : at + 1 + getD s at 0 % 4 ≤ length s
-
--- an item of the long form: the octet after the first is its length
-pub record Long (s : List ℕ) (at : ℕ) (it : Item) (con : Bool) (next : ℕ) : Type 0 where
-  pub form : getD s at 0 / 4 % 2 ≡ 0 → ⊥
-  pub item : it ≡ record { identity = getD s at 0 / 8 % 16; long = true; start = at + 1 + 1; len = getD s (at + 1) 0 }
-  pub more : con ≡ leb 128 (getD s at 0)
-  pub ends : next ≡ at + 1 + 1 + getD s (at + 1) 0
-  pub inside : at + 1 + 1 + getD s (at + 1) 0 ≤ length s
 
 pub cut-one : {A : Type 0} (it : Item) (con : Bool) (n : ℕ) → Cut ≡ One it con n → A
 cut-one it con n e = let z : _≡_ {A = ℕ} 0 1 = cc in absurd (omega arith)

@@ -3,11 +3,12 @@ ghost use mathlib.Core.Path.{_≡_};
 ghost use Prim.Native.Nat.{_+_, _≤_, _<_};
 ghost use lib.ListN.{length};
 ghost use Rattle.base_layout.specs.Layout.{datagramBound};
+ghost use Rattle.codec_pdu.specs.Brief.{briefOf};
 ghost use Rattle.codec_separation.specs.Separate.{partOf, partAt, partsFrom, partsOf, answerAt, pduAt};
 ghost use Rattle.codec_separation.specs.Counting.{counted};
 use base_numbers::Refusal;
+use codec_pdu::Brief;
 use codec_pdu::Kind;
-use codec_pdu::Pdu;
 
 // How many PDUs a datagram has and where the k-th lies; or why it can't be separated.
 pub enum Separation {
@@ -149,16 +150,16 @@ pub fn separate(d: &[u8], k: u64) -> Separation
     }
 }
 
-// The PDU that the k-th part holds: the reader is handed that part of the datagram, an empty one where there is none.
-pub fn read_part(d: &[u8], k: u64) -> Pdu
-    ensures { λ r. ⌜ r ≡ pduAt (now (d .entry)) (answerAt (partsOf (now (d .entry))) k) ⌝ }
+// What the engine takes of the PDU that the k-th part holds: the reader is handed that part of the datagram, an empty one where there is none.
+pub fn read_part(d: &[u8], k: u64) -> Brief
+    ensures { λ r. ⌜ r ≡ briefOf (pduAt (now (d .entry)) (answerAt (partsOf (now (d .entry))) k)) ⌝ }
 {
     match separate(d, k) {
-        Separation::Refused(r) => codec_pdu::blank(Kind::Refused(r)),
+        Separation::Refused(r) => codec_pdu::blank_brief(Kind::Refused(r)),
         Separation::Parts {
             count: _,
             start,
             len,
-        } => codec_reading::read(&d[start..start + len]),
+        } => codec_reading::brief(&d[start..start + len]),
     }
 }

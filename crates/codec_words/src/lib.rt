@@ -3,11 +3,36 @@ ghost use mathlib.Core.Path.{_≡_};
 ghost use Prim.Native.Nat.{_≤_};
 ghost use lib.ListN.{length};
 ghost use Rattle.base_lists.specs.Seq.{put};
-ghost use Rattle.codec_words.specs.Words.{frontWords, invokeWords, otherWords, itemWords, itemsWords, wordsOf};
+ghost use Rattle.codec_words.specs.Words.{frontWords, invokeWords, otherWords, itemWords, itemsWords};
+ghost use Rattle.codec_words.specs.Listed.{noneAt, placedAt, countFrom, listFrom, wordsFrom};
 use base_lists::flag;
+use codec_items::Got;
 use codec_items::Item;
+use codec_pdu::Brief;
 use codec_pdu::Kind;
-use codec_pdu::Pdu;
+
+// An item, 1 for it and the place of the next.
+struct Placed {
+    pub item: Item,
+    pub one: u64,
+    pub next: usize,
+}
+
+// No item.
+fn no_item() -> Placed
+    ensures { λ r. ⌜ r ≡ noneAt ⌝ }
+{
+    Placed {
+        item: Item {
+            identity: 0,
+            long: false,
+            start: 0,
+            len: 0,
+        },
+        one: 0,
+        next: 0,
+    }
+}
 
 // Words 0 to 4: type, GTR, TTR, RID, TID.
 fn front_words(kind: Kind, tid: u64) -> [u64; 5]
@@ -73,37 +98,68 @@ fn item_words(it: Item) -> [u64; 4]
     [it.identity as u64, long, it.start as u64, it.len as u64]
 }
 
-// Stores the words of the items, four for each, from word 24 on.
-fn store_items(fields: &mut [u64], list: [Item; 16])
-    requires { ⌜ 88 ≤ length (now fields) ⌝ }
-    ensures { λ _. ⌜ now (fields .exit) ≡ put (now (fields .entry)) 24 (itemsWords list) ⌝ }
+// The item at a place, 1 for it, and the place of the item after it; no item, 0 and 0 at 0.
+fn placed_at(s: &[u8], at: usize) -> Placed
+    ensures { λ r. ⌜ r ≡ placedAt (now (s .entry)) at ⌝ }
 {
-    let mut k = 0;
-    while k < 16 {
-        let it = list[k];
-        let four = item_words(it);
-        base_lists::store_words(&mut *fields, 24 + 4 * k, &four);
-        k += 1;
+    if at == 0 {
+        return no_item();
+    }
+    match codec_items::item_at(s, at) {
+        Got::Cut => no_item(),
+        Got::One { item, con, next } => {
+            if con {
+                Placed {
+                    item: item,
+                    one: 1,
+                    next: next,
+                }
+            } else {
+                Placed {
+                    item: item,
+                    one: 1,
+                    next: 0,
+                }
+            }
+        }
     }
 }
 
-// Stores the words of a PDU.
-pub fn store_fields(fields: &mut [u64], p: Pdu)
+// Stores the words of the 16 items from `first` on, four for each, from word 24 on; gives how many there are.
+fn store_items(fields: &mut [u64], s: &[u8], first: usize) -> u64
     requires { ⌜ 88 ≤ length (now fields) ⌝ }
-    ensures { λ _. ⌜ now (fields .exit) ≡ put (now (fields .entry)) 0 (wordsOf p) ⌝ }
+    ensures { λ r. ⌜ (r ≡ countFrom 16 (now (s .entry)) first) × (now (fields .exit) ≡ put (now (fields .entry)) 24 (itemsWords (listFrom 16 (now (s .entry)) first))) ⌝ }
 {
-    let kind = p.kind;
-    let list = p.list;
-    let front = front_words(kind, p.tid as u64);
-    let invoke = invoke_words(kind);
-    let other = other_words(kind);
-    let count = p.count as u64;
-    let start = p.start as u64;
-    let len = p.len as u64;
-    let rest = [count, start, len, 0, 0, 0, 0, 0, 0];
+    let mut at = first;
+    let mut count = 0;
+    let mut k = 0;
+    while k < 16 {
+        let placed = placed_at(s, at);
+        let item = placed.item;
+        let four = item_words(item);
+        base_lists::store_words(&mut *fields, 24 + 4 * k, &four);
+        count += placed.one;
+        at = placed.next;
+        k += 1;
+    }
+    count
+}
+
+// Stores the words of a PDU in s, whose first item stands at `first`.
+pub fn store_fields(fields: &mut [u64], s: &[u8], first: usize, b: Brief)
+    requires { ⌜ 88 ≤ length (now fields) ⌝ }
+    ensures { λ _. ⌜ now (fields .exit) ≡ put (now (fields .entry)) 0 (wordsFrom (now (s .entry)) first b) ⌝ }
+{
+    let count = store_items(&mut *fields, s, first);
+    let kind = b.kind;
+    let front = front_words(kind, b.tid as u64);
     base_lists::store_words(&mut *fields, 0, &front);
+    let invoke = invoke_words(kind);
     base_lists::store_words(&mut *fields, 5, &invoke);
+    let other = other_words(kind);
     base_lists::store_words(&mut *fields, 9, &other);
-    base_lists::store_words(&mut *fields, 15, &rest);
-    store_items(fields, list);
+    let start = b.start as u64;
+    let len = b.len as u64;
+    let rest = [count, start, len, 0, 0, 0, 0, 0, 0];
+    base_lists::store_words(fields, 15, &rest);
 }

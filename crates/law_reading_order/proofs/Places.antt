@@ -12,7 +12,8 @@ use Rattle.codec_items.specs.declared.Item.{Item}
 use Rattle.codec_items.specs.declared.Got.{Got}
 use Rattle.codec_items.specs.declared.Got.the-variants.{One, Cut}
 use Rattle.codec_items.specs.Items.{itemAt}
-use Rattle.codec_items.proofs.Forms.{Short, Long, item-forms, cut-one}
+use Rattle.codec_items.specs.Forms.{Short, Long}
+use Rattle.codec_items.proofs.Forms.{item-forms, cut-one}
 use Rattle.law_reading_order.specs.Layout.{itemEnd}
 
 module _ (s : List ℕ) (at : ℕ) where

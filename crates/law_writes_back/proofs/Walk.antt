@@ -18,7 +18,8 @@ use Rattle.codec_items.specs.declared.Items.{Items}
 use Rattle.codec_items.specs.declared.Got.{Got}
 use Rattle.codec_items.specs.declared.Got.the-variants.{One, Cut}
 use Rattle.codec_items.specs.Items.{itemAt, afterItem, walkFrom}
-use Rattle.codec_items.proofs.Forms.{Short, Long, item-forms}
+use Rattle.codec_items.specs.Forms.{Short, Long}
+use Rattle.codec_items.proofs.Forms.{item-forms}
 use Rattle.codec_encoding.specs.Write.{itemOctets, itemsOctets, FitItem, FitItems}
 use Rattle.law_reading_order.proofs.Judged.{bad-sound}
 use Rattle.law_reading_order.proofs.Places.{Told, item-told}

@@ -18,7 +18,7 @@ returns-2 : tie.Need-returns-2
 unfolding pduAt
 returns-2 c =
     let b = c .before .before .before in
-    rw (← b .before .before .separate .ensures, b .start .given .1) (rw (add-sub-cancel-left (b .start .given .0 .1 .0) (b .start .given .0 .1 .1 .0)) at (c .read .ensures))
+    rw (← b .before .before .separate .ensures, b .start .given .1) (rw (add-sub-cancel-left (b .start .given .0 .1 .0) (b .start .given .0 .1 .1 .0)) at (c .brief .ensures))
 
 pub read-part-spec : {M : Type 1} → statement M
 unfolding pduAt
@@ -29,5 +29,5 @@ read-part-spec =
     (λ c. search needs) (λ c. search needs)
     (λ c. omega (arith, inside c))
     (λ c κs. search needs)
-    (λ c. rw (← c .before .before .before .before .separate .ensures, c .before .before .r .given .1) (c .blank .ensures))
+    (λ c. rw (← c .before .before .before .before .separate .ensures, c .before .before .r .given .1) (c .blank-brief .ensures))
     returns-2)
