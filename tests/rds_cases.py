@@ -1,7 +1,7 @@
 #!/usr/bin/env python3
 """Writes the cases of the Reliable Data Service and what they must give: crates/rds_cases/stdin and stdout.
 
-The worked examples 1 to 19 of RDS.md (section 10), each with the words that its row names (section 6 numbers them): nothing
+The worked examples 1 to 32 of RDS.md (section 10), each with the words that its row names (section 6 numbers them): nothing
 here is taken from the definitions or the code, so the program's output is compared with a second opinion.
 usage: tests/rds_cases.py [--check]   (--check: only say whether both files are as this script writes them)
 """
@@ -94,6 +94,96 @@ PUTS = [
 ]
 
 
+# words of the answer of rds_receive and rds_port (section 6)
+SENT, EVENT, TOLD_ACTION, TOLD_STATUS, OWN, PEERS, TOLD_FORMAT, CHANGED, AT, LEN, TOLD_M, WHOM = range(12)
+APP_OCTETS = len(A) // 2
+
+
+def fresh(network=0, formats=0):
+    return f'f {network} {formats}', {}, ''
+
+
+def asked(line, frame):
+    """One of our commands: the frame that is sent."""
+    return line, {SENT: len(frame) // 2}, frame
+
+
+def reserve(own, peers, app, frame, with_format=0):
+    return asked(f'r {own} {peers} {with_format} /{app}', frame)
+
+
+def release(own, frame):
+    return asked(f'l {own}', frame)
+
+
+def refused(line, number):
+    return line, number, ''
+
+
+def answered(frame, sent, action, own, peers, status=0, form=0, changed=0):
+    """Event 1: a command of the peer, with its Application ID of 20 octets at 4."""
+    words = {SENT: len(sent) // 2, EVENT: 1, TOLD_ACTION: action, TOLD_STATUS: status, OWN: own, PEERS: peers, TOLD_FORMAT: form,
+             CHANGED: changed, AT: 4, LEN: APP_OCTETS}
+    return f'v {frame}', words, sent
+
+
+def settled(frame, action, own, peers, status=0, form=0, changed=0):
+    """Event 2: our command was answered."""
+    return f'v {frame}', {EVENT: 2, TOLD_ACTION: action, TOLD_STATUS: status, OWN: own, PEERS: peers, TOLD_FORMAT: form, CHANGED: changed}, ''
+
+
+def unbuilt(frame, sent, m, action=0):
+    return f'v {frame}', {SENT: len(sent) // 2, EVENT: 3, TOLD_ACTION: action, TOLD_M: m}, sent
+
+
+def unheard(frame):
+    return f'v {frame}', {}, ''
+
+
+def kept(port, whom, peers, app, form=0):
+    return f'q {port}', {SENT: len(app) // 2, OWN: port, PEERS: peers, TOLD_FORMAT: form, WHOM: whom}, app
+
+
+def free(port):
+    return f'q {port}', {}, ''
+
+
+R = '700A0135' + A
+L = '700A0235' + A
+ON_20 = [fresh(), reserve(3, 5, A, R), settled('700A0100', 1, 3, 5, changed=1)]
+
+# section 10, "Calls": the line, the words other than 0 (or a refusal), the output
+CALLS = [
+    ('20', [fresh(), reserve(3, 5, A, R), refused(f'r 4 6 0 /{B}', 9), settled('700A0100', 1, 3, 5, changed=1), kept(3, 1, 5, A),
+            unheard('700A0100'), refused(f'r 3 7 0 /{B}', 9)]),
+    ('21', ON_20 + [release(3, L), unheard('700A0100'), settled('700A0202', 2, 3, 5, status=2, changed=1), free(3), refused('l 3', 8)]),
+    ('22', ON_20 + [release(3, L), settled('700A0201', 2, 3, 5, status=1), kept(3, 1, 5, A), release(3, L),
+                    settled('7001', 2, 3, 5, status=256), kept(3, 1, 5, A), free(0)]),
+    ('23', [fresh(), answered('740A0124' + A, '740A0100', 1, 4, 2, changed=1), answered('740A0124' + A, '740A0100', 1, 4, 2),
+            answered('740A0124' + B, '740A0101', 1, 4, 2, status=1), answered('740A0134' + A, '740A0101', 1, 4, 3, status=1)]),
+    ('24', [fresh(), answered('740A0124' + A, '740A0100', 1, 4, 2, changed=1), answered('740A0224' + B, '740A0202', 2, 4, 2, status=2),
+            answered('740A0294' + A, '740A0200', 2, 4, 9, changed=1), answered('740A0294' + A, '740A0202', 2, 4, 9, status=2)]),
+    ('25', [fresh(), reserve(3, 5, A, R), answered('740A0163' + A, '740A0101', 1, 3, 6, status=1),
+            answered('740A0153' + B, '740A0101', 1, 3, 5, status=1), answered('740A0153' + A, '740A0100', 1, 3, 5, changed=1),
+            kept(3, 2, 5, A), settled('700A0100', 1, 3, 5, changed=1), kept(3, 1, 5, A)]),
+    ('26', [fresh(), answered('740A0524' + A + '07', '740A050003', 5, 4, 2, status=3),
+            fresh(formats=6), answered('740A0524' + A + '07', '740A050200', 5, 4, 2, form=2, changed=1),
+            answered('740A0524' + A + '07', '740A050200', 5, 4, 2, form=2), answered('740A0524' + A + '04', '740A050001', 5, 4, 2, status=1),
+            answered('740A0525' + A + '01', '740A050603', 5, 5, 2, status=3, form=6)]),
+    ('27', [fresh(), answered('740A0120' + A, '740A0100', 1, 0, 2), answered('740A0220' + A, '740A0200', 2, 0, 2),
+            answered('740A0104' + A, '740A0100', 1, 4, 0, changed=1), kept(4, 2, 0, A)]),
+    ('28', [fresh(), unbuilt('740A03', '7401', 10, action=3), unbuilt('7C0724', '7C0142', 7), unheard('7401'), refused('v 700A0104', 16)]),
+    ('29', [fresh(formats=3), reserve(3, 0, A, '700A0530' + A + '03', with_format=1), asked('a', '700A0530' + A + '03'),
+            settled('700A050200', 5, 3, 0, form=2, changed=1), fresh(), refused(f'r 3 0 1 /{A}', 9)]),
+    ('30', [fresh(), reserve(3, 5, A, R), ('d', {}, ''), refused('d', 8), refused('a', 8), unheard('700A0100'), refused(f'r 0 5 0 /{A}', 10),
+            refused(f'r 3 16 0 /{A}', 10), refused(f'r 3 5 0 /{A[:-2]}', 11), refused('q 16', 10)]),
+    ('31', ON_20 + [release(3, L), answered('740A0253' + A, '740A0200', 2, 3, 5, changed=1), answered('740A0153' + A, '740A0101', 1, 3, 5, status=1),
+                    settled('700A0200', 2, 3, 5), answered('740A0153' + A, '740A0100', 1, 3, 5, changed=1)]),
+    ('32', [fresh(network=1), reserve(3, 5, A, '740A0135' + A), settled('740A0100', 1, 3, 5, changed=1),
+            answered('700A0253' + A, '700A0200', 2, 3, 5, changed=1)]),
+]
+
+
 def shown(words):
     return ''.join(f' {k}={words[k]}' for k in sorted(words) if words[k])
 
@@ -129,6 +219,13 @@ def cases():
             yield line, f': refused {last} '
         else:
             yield line, f': ok{shown({0: len(octets) // 2, 12: last})} {text_of(bytes.fromhex(octets))}'
+    for n, calls in CALLS:
+        yield f'# RDS.md, section 10, {n}', ''
+        for line, words, octets in calls:
+            if isinstance(words, int):
+                yield line, f': refused {words}'
+            else:
+                yield line, f': ok{shown(words)}' + (f' {text_of(bytes.fromhex(octets))}' if octets else '')
 
 
 def main():

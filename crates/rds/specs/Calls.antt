@@ -4,6 +4,7 @@ use mathlib.Core.List.{List, [], _∷_}
 use mathlib.Core.Bool.{Bool, true, false}
 use lib.ListN.{length}
 use lib.Dec.{ltb, eqb}
+use Rattle.rds_lists.specs.Sizes.{fieldsLeast, partLeast, answerLeast}
 use Rattle.base_lists.specs.Seq.{pick, put}
 use Rattle.base_numbers.specs.declared.Refusal.the-variants.{WrongSize, WrongFrame}
 use Rattle.base_numbers.specs.Numbers.{numberOf}
@@ -35,11 +36,11 @@ wordsAfter least s network words written =
     (pick (soundFrame s network) (put words 0 written) words)
 
 unfoldable pub fieldsAfter : List ℕ → ℕ → List ℕ → List ℕ
-fieldsAfter s network fields = wordsAfter 100 s network fields (wordsOf (frameOf s (isOn network)))
+fieldsAfter s network fields = wordsAfter fieldsLeast s network fields (wordsOf (frameOf s (isOn network)))
 
 -- section 6, PART: what is taken of a frame, whose information is all that follows its header
 unfoldable pub partAfter : List ℕ → ℕ → List ℕ → List ℕ
-partAfter s network part = wordsAfter 8 s network part (partWords (frameOf s (isOn network) .head) (length s - frameOf s (isOn network) .head .end))
+partAfter s network part = wordsAfter partLeast s network part (partWords (frameOf s (isOn network) .head) (length s - frameOf s (isOn network) .head .end))
 
 -- section 6, `rds_put`: "word 0 the length, word 12 the next number, (number + 1) modulo 8; else 0"
 unfoldable pub putWords : ℕ → ℕ → List ℕ
@@ -55,13 +56,13 @@ puttingWords (Refused r) number answer = answer
 
 -- section 6: 1 for an answer of fewer than 16 words; else what putting the datagram gives back
 unfoldable pub putNumber : List ℕ → ℕ → ℕ → ℕ → ℕ → List ℕ → List ℕ → ℕ
-putNumber t ports s d n out answer = pick (ltb (length answer) 16) (numberOf WrongSize) (puttingNumber (putOf t (isOn ports) s d n out .answer))
+putNumber t ports s d n out answer = pick (ltb (length answer) answerLeast) (numberOf WrongSize) (puttingNumber (putOf t (isOn ports) s d n out .answer))
 
 unfoldable pub putOutput : List ℕ → ℕ → ℕ → ℕ → ℕ → List ℕ → List ℕ → List ℕ
-putOutput t ports s d n out answer = pick (ltb (length answer) 16) out (putOf t (isOn ports) s d n out .output)
+putOutput t ports s d n out answer = pick (ltb (length answer) answerLeast) out (putOf t (isOn ports) s d n out .output)
 
 unfoldable pub putAnswer : List ℕ → ℕ → ℕ → ℕ → ℕ → List ℕ → List ℕ → List ℕ
-putAnswer t ports s d n out answer = pick (ltb (length answer) 16) answer (puttingWords (putOf t (isOn ports) s d n out .answer) n answer)
+putAnswer t ports s d n out answer = pick (ltb (length answer) answerLeast) answer (puttingWords (putOf t (isOn ports) s d n out .answer) n answer)
 
 -- section 6, `rds_write`: "Word 0 of its answer is the frame's length, the other 15 are 0"
 unfoldable pub writtenWords : ℕ → List ℕ
@@ -73,10 +74,10 @@ writingWords (Refused r) answer = answer
 
 -- section 6: 1 for an answer of fewer than 16 words; else what writing the frame gives back
 unfoldable pub writeNumber : List ℕ → List ℕ → ℕ → List ℕ → List ℕ → ℕ
-writeNumber w s network out answer = pick (ltb (length answer) 16) (numberOf WrongSize) (puttingNumber (writeOf w s (isOn network) out .answer))
+writeNumber w s network out answer = pick (ltb (length answer) answerLeast) (numberOf WrongSize) (puttingNumber (writeOf w s (isOn network) out .answer))
 
 unfoldable pub writeOutput : List ℕ → List ℕ → ℕ → List ℕ → List ℕ → List ℕ
-writeOutput w s network out answer = pick (ltb (length answer) 16) out (writeOf w s (isOn network) out .output)
+writeOutput w s network out answer = pick (ltb (length answer) answerLeast) out (writeOf w s (isOn network) out .output)
 
 unfoldable pub writeAnswer : List ℕ → List ℕ → ℕ → List ℕ → List ℕ → List ℕ
-writeAnswer w s network out answer = pick (ltb (length answer) 16) answer (writingWords (writeOf w s (isOn network) out .answer) answer)
+writeAnswer w s network out answer = pick (ltb (length answer) answerLeast) answer (writingWords (writeOf w s (isOn network) out .answer) answer)

@@ -3,7 +3,13 @@ ghost use mathlib.Core.Path.{_≡_};
 ghost use Prim.Native.Nat.{_≤_};
 ghost use lib.ListN.{length};
 ghost use Rattle.base_lists.specs.Seq.{put};
+ghost use Rattle.rds_lists.specs.Sizes.{fieldsLeast, partLeast};
 ghost use Rattle.rds.specs.Calls.{isOn, readNumber, fieldsAfter, partAfter, putWords, putNumber, putOutput, putAnswer, writtenWords, writeNumber, writeOutput, writeAnswer};
+ghost use Rattle.rds_book.specs.Book.{bookSize};
+ghost use Rattle.rds_lent.specs.Left.{left};
+ghost use Rattle.rds_ports.specs.Ports.{reserveOf, releaseOf, againOf, abandonNumber, abandonAfter};
+ghost use Rattle.rds_shown.specs.Shown.{freshNumber, freshAfter, portOf};
+ghost use Rattle.rds_receiving.specs.Receiving.{receiveOf};
 use base_numbers::Refusal;
 use rds_datagram::Putting;
 
@@ -20,7 +26,7 @@ fn is_on(flag: u64) -> bool
 // Reads a frame into 100 words.
 #[no_mangle]
 pub extern "C" fn rds_read(frame: &[u8], from_network: u64, fields: &mut [u64]) -> u64
-    ensures { λ r. ⌜ (r ≡ readNumber 100 (now (frame .entry)) «from_network» (now (fields .entry))) × (now (fields .exit) ≡ fieldsAfter (now (frame .entry)) «from_network» (now (fields .entry))) ⌝ }
+    ensures { λ r. ⌜ (r ≡ readNumber fieldsLeast (now (frame .entry)) «from_network» (now (fields .entry))) × (now (fields .exit) ≡ fieldsAfter (now (frame .entry)) «from_network» (now (fields .entry))) ⌝ }
 {
     if fields.len() < 100 {
         return base_numbers::number(Refusal::WrongSize);
@@ -37,7 +43,7 @@ pub extern "C" fn rds_read(frame: &[u8], from_network: u64, fields: &mut [u64]) 
 // Judges a frame whole, and tells where the datagram lies in it, its ports and its number.
 #[no_mangle]
 pub extern "C" fn rds_take(frame: &[u8], from_network: u64, part: &mut [u64]) -> u64
-    ensures { λ r. ⌜ (r ≡ readNumber 8 (now (frame .entry)) «from_network» (now (part .entry))) × (now (part .exit) ≡ partAfter (now (frame .entry)) «from_network» (now (part .entry))) ⌝ }
+    ensures { λ r. ⌜ (r ≡ readNumber partLeast (now (frame .entry)) «from_network» (now (part .entry))) × (now (part .exit) ≡ partAfter (now (frame .entry)) «from_network» (now (part .entry))) ⌝ }
 {
     if part.len() < 8 {
         return base_numbers::number(Refusal::WrongSize);
@@ -120,4 +126,81 @@ pub extern "C" fn rds_write(
         }
         Putting::Refused(r) => base_numbers::number(r),
     }
+}
+
+// The octets of a port book.
+#[no_mangle]
+pub extern "C" fn rds_ports_bytes() -> u64
+    ensures { λ r. ⌜ r ≡ bookSize ⌝ }
+{
+    rds_book::BOOK_SIZE as u64
+}
+
+// Makes a port book in which nothing is kept.
+#[no_mangle]
+pub extern "C" fn rds_ports_fresh(book: &mut [u8], network: u64, formats: u64) -> u64
+    ensures { λ r. ⌜ (r ≡ freshNumber (now (book .entry)) formats) × (now (book .exit) ≡ freshAfter (now (book .entry)) (isOn network) formats) ⌝ }
+{
+    rds_shown::fresh(book, is_on(network), formats)
+}
+
+// Asks the peer for a port.
+#[no_mangle]
+pub extern "C" fn rds_reserve(
+    book: &mut [u8],
+    out: &mut [u8],
+    answer: &mut [u64],
+    own: u64,
+    peers: u64,
+    with_format: u64,
+    app: &[u8],
+) -> u64
+    ensures { λ r. ⌜ left r (now (book .exit)) (now (out .exit)) (now (answer .exit)) ≡ reserveOf (now (book .entry)) (now (out .entry)) (now (answer .entry)) own peers (isOn «with_format») (now (app .entry)) ⌝ }
+{
+    rds_ports::reserve(book, out, answer, own, peers, is_on(with_format), app)
+}
+
+// Gives a port back.
+#[no_mangle]
+pub extern "C" fn rds_release(book: &mut [u8], out: &mut [u8], answer: &mut [u64], own: u64) -> u64
+    ensures { λ r. ⌜ left r (now (book .exit)) (now (out .exit)) (now (answer .exit)) ≡ releaseOf (now (book .entry)) (now (out .entry)) (now (answer .entry)) own ⌝ }
+{
+    rds_ports::release(book, out, answer, own)
+}
+
+// Sends the outstanding command again.
+#[no_mangle]
+pub extern "C" fn rds_again(book: &[u8], out: &mut [u8], answer: &mut [u64]) -> u64
+    ensures { λ r. ⌜ left r (now (book .entry)) (now (out .exit)) (now (answer .exit)) ≡ againOf (now (book .entry)) (now (out .entry)) (now (answer .entry)) ⌝ }
+{
+    rds_ports::again(book, out, answer)
+}
+
+// Gives the outstanding command up.
+#[no_mangle]
+pub extern "C" fn rds_abandon(book: &mut [u8]) -> u64
+    ensures { λ r. ⌜ (r ≡ abandonNumber (now (book .entry))) × (now (book .exit) ≡ abandonAfter (now (book .entry))) ⌝ }
+{
+    rds_ports::abandon(book)
+}
+
+// Takes a frame from the peer.
+#[no_mangle]
+pub extern "C" fn rds_receive(
+    book: &mut [u8],
+    out: &mut [u8],
+    answer: &mut [u64],
+    frame: &[u8],
+) -> u64
+    ensures { λ r. ⌜ left r (now (book .exit)) (now (out .exit)) (now (answer .exit)) ≡ receiveOf (now (book .entry)) (now (out .entry)) (now (answer .entry)) (now (frame .entry)) ⌝ }
+{
+    rds_receiving::receive(book, out, answer, frame)
+}
+
+// Tells what is kept of a port, or with 0 of the outstanding command.
+#[no_mangle]
+pub extern "C" fn rds_port(book: &[u8], port: u64, out: &mut [u8], answer: &mut [u64]) -> u64
+    ensures { λ r. ⌜ left r (now (book .entry)) (now (out .exit)) (now (answer .exit)) ≡ portOf (now (book .entry)) (now (out .entry)) (now (answer .entry)) port ⌝ }
+{
+    rds_shown::port(book, out, answer, port)
 }

@@ -4,6 +4,7 @@ use mathlib.Core.List.{List, [], _∷_, _++_}
 use mathlib.Core.Bool.{Bool, true, false}
 use lib.ListN.{length}
 use lib.Dec.{ltb, leb, eqb}
+use Rattle.rds_lists.specs.Sizes.{frameMost}
 use Rattle.base_lists.specs.Seq.{pick, put}
 use Rattle.base_numbers.specs.declared.Refusal.{Refusal}
 use Rattle.base_numbers.specs.declared.Refusal.the-variants.{WrongSize, WrongSetting, WrongLength}
@@ -20,7 +21,7 @@ fitOf ports s d n =
 -- section 6, the lowest of 1 (fewer than 1,523 octets of output), 10 and 11 ("a datagram outside 1 to 1,500 octets"), else the frame's length
 unfoldable pub planOf : ℕ → ℕ → Bool → Bool → Putting
 planOf len room ports fits =
-    pick (ltb room 1523) (Refused WrongSize)
+    pick (ltb room frameMost) (Refused WrongSize)
     (pick fits
     (pick (eqb len 0) (Refused WrongLength)
     (pick (ltb 1500 len) (Refused WrongLength)

@@ -3,6 +3,7 @@ use Prim.Native.Nat.{ℕ, _+_, _%_, _≤_}
 use mathlib.Core.List.{List, [], _∷_, _++_}
 use mathlib.Core.Bool.{Bool}
 use lib.ListN.{length, take}
+use Rattle.rds_lists.specs.Sizes.{informationMost}
 use Rattle.base_lists.specs.Seq.{bit, part}
 use Rattle.rds_frame.specs.declared.Head.{Head}
 use Rattle.rds_entries.specs.declared.Entry.{Entry}
@@ -37,4 +38,4 @@ pub record Fitting (s : List ℕ) (list : List Entry) (p : Pieces) : Type 0 wher
   pub part-fits : p .start + p .len ≤ length s
   pub count-fits : p .count ≤ 15
   pub tails-fit : p .tails ≤ length (p .tail)
-  pub size-fits : p .fronts + p .len + entriesSize s (p .formats) list (p .count) + p .tails ≤ 1520
+  pub size-fits : p .fronts + p .len + entriesSize s (p .formats) list (p .count) + p .tails ≤ informationMost

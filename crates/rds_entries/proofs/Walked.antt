@@ -10,12 +10,8 @@ use Rattle.rds_entries.specs.declared.Entry.{Entry}
 use Rattle.rds_entries.specs.declared.Entries.{Entries}
 use Rattle.rds_entries.specs.declared.Got.{Got}
 use Rattle.rds_entries.specs.declared.Got.the-variants.{One, Cut}
-use Rattle.rds_entries.specs.Entries.{entryAt, afterEntry, walkFrom}
+use Rattle.rds_entries.specs.Entries.{entryAt, afterEntry, walkFrom, Within}
 use Rattle.rds_entries.proofs.Inside.{entry-inside}
-
--- between the place `at` of s and its end
-abbrev pub Within : ℕ → List ℕ → ℕ → Type 0
-Within at s end = (at ≤ end) × (end ≤ at + length s)
 
 pub walk-inside : (n k : ℕ) (f : Bool) (at : ℕ) (s : List ℕ) (read : List Entry) → walkFrom n k f at s read .whole ≡ true → Within at s (walkFrom n k f at s read .end)
 unfolding walkFrom

@@ -1,5 +1,5 @@
 -- Application IDs and the entries of a list (RDS.md, section 2; TS 24.250, 5.4.2.6): what stands at a place, and the walk.
-use Prim.Native.Nat.{ℕ, zero, suc, _+_, _/_, _%_}
+use Prim.Native.Nat.{ℕ, zero, suc, _+_, _/_, _%_, _≤_}
 use mathlib.Core.List.{List}
 use mathlib.Core.Bool.{Bool, true, false}
 use lib.ListN.{length, getD, set, drop, replicate}
@@ -49,3 +49,7 @@ afterEntry rest k at s read (One e size) = rest (k + 1) (at + size) (drop size s
 unfoldable pub walkFrom : ℕ → ℕ → Bool → ℕ → List ℕ → List Entry → Entries
 walkFrom zero k formats at s read = record { whole = true; end = at; list = read }
 walkFrom (suc left) k formats at s read = afterEntry (λ j. walkFrom left j formats) k at s read (entryAt s at formats)
+
+-- between the place `at` of s and its end
+abbrev pub Within : ℕ → List ℕ → ℕ → Type 0
+Within at s end = (at ≤ end) × (end ≤ at + length s)

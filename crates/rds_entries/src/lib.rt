@@ -28,7 +28,7 @@ pub struct Entries {
 
 // The length of the Application ID that s begins with; 0 where it is cut short.
 pub fn application_length(s: &[u8]) -> usize
-    ensures { λ r. ⌜ (r ≡ applicationLength (now (s .entry))) × (r ≤ length (now (s .entry))) ⌝ }
+    ensures { λ r. ⌜ (r ≡ applicationLength (now (s .entry))) × (r ≤ length (now (s .entry))) × (r ≤ 272) ⌝ }
 {
     if s.len() < 17 {
         return 0;

@@ -11,11 +11,7 @@ use Rattle.base_lists.specs.Seq.{pick}
 use Rattle.rds_frame.specs.declared.Kind.{Kind}
 use Rattle.rds_frame.specs.declared.Kind.the-variants.{Ui}
 use Rattle.rds_frame.specs.declared.Head.{Head}
-use Rattle.rds_frame.specs.Frame.{flag, kindOf, badHead, portsAfter, headOf}
-
--- at the end of the header the frame goes on or ends, and a header has at most three octets
-abbrev pub Inside : List ℕ → Head → Type 0
-Inside s h = (h .end ≤ length s) × (h .end ≤ 3)
+use Rattle.rds_frame.specs.Frame.{Inside, flag, kindOf, badHead, portsAfter, headOf}
 
 module _ (s : List ℕ) where
   ports-inside : (k : Kind) (ads : Bool) (at : ℕ) → at ≤ length s → at ≤ 2 → Inside s (portsAfter s k ads at)

@@ -1,5 +1,5 @@
 -- The header of a frame (RDS.md, section 1; TS 24.250, 5.2 to 5.4). Bits are counted 8 to 1; bit k of an octet has the weight 2^(k - 1).
-use Prim.Native.Nat.{ℕ, _+_, _/_, _%_}
+use Prim.Native.Nat.{ℕ, _+_, _/_, _%_, _≤_}
 use mathlib.Core.List.{List}
 use mathlib.Core.Bool.{Bool, true, false}
 use lib.ListN.{length, getD}
@@ -70,3 +70,7 @@ headOf s network =
     (pick (eqb (getD s 0 0 / 32) 2) (portsAfter s (Ui (getD s 0 0 % 8)) (flag 8 (getD s 0 0)) 1)
     (pick (ltb (length s) 2) badHead
     (portsAfter s (kindOf (getD s 0 0) (getD s 1 0) network) (flag 8 (getD s 0 0)) 2))))
+
+-- at the end of the header the frame goes on or ends, and a header has at most three octets
+abbrev pub Inside : List ℕ → Head → Type 0
+Inside s h = (h .end ≤ length s) × (h .end ≤ 3)

@@ -4,6 +4,7 @@ use mathlib.Core.List.{List, [], _∷_}
 use mathlib.Core.Bool.{Bool, true, false}
 use lib.ListN.{length, getD, drop, replicate}
 use lib.Dec.{ltb, leb, eqb}
+use Rattle.rds_lists.specs.Sizes.{informationMost}
 use Rattle.base_lists.specs.Seq.{pick}
 use Rattle.rds_frame.specs.Frame.{flag, sacked, responds, answered, commanded}
 use Rattle.rds_parameters.specs.Parameters.{itemsFrom}
@@ -89,7 +90,7 @@ module _ (s : List ℕ) where
 
   -- 5. an information field over 1,520 octets
   abbrev pub malformed5 : Bool
-  malformed5 = not (leb (length s - headerLength) 1520)
+  malformed5 = not (leb (length s - headerLength) informationMost)
 
   -- 6. an S frame with information
   abbrev pub malformed6 : Bool

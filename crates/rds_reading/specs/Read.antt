@@ -4,6 +4,7 @@ use mathlib.Core.List.{List}
 use mathlib.Core.Bool.{Bool, true, false}
 use lib.ListN.{length, drop}
 use lib.Dec.{leb, eqb}
+use Rattle.rds_lists.specs.Sizes.{informationMost}
 use Rattle.base_lists.specs.Seq.{pick}
 use Rattle.rds_frame.specs.declared.Kind.{Kind}
 use Rattle.rds_frame.specs.declared.Kind.the-variants as K
@@ -52,7 +53,7 @@ bodyBy s at ads K.Wrong = noList Wrong
 
 -- section 1: "the information field: the rest, 0 to 1,520 octets (N201, 6.4.6)"
 unfoldable pub bodyAfter : List ℕ → Head → Managed
-bodyAfter s h = pick (leb (length s - h .end) 1520) (bodyBy s (h .end) (h .ads) (h .kind)) (noList Wrong)
+bodyAfter s h = pick (leb (length s - h .end) informationMost) (bodyBy s (h .end) (h .ads) (h .kind)) (noList Wrong)
 
 -- the frame that s holds, sent by the network or by the UE
 unfoldable pub frameOf : List ℕ → Bool → Frame

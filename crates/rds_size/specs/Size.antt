@@ -4,6 +4,7 @@ use mathlib.Core.List.{List}
 use mathlib.Core.Bool.{Bool, false}
 use lib.ListN.{length, getD}
 use lib.Dec.{ltb, leb, eqb}
+use Rattle.rds_lists.specs.Sizes.{informationMost, tooLong}
 use Rattle.base_lists.specs.Seq.{pick, part, total}
 use Rattle.rds_entries.specs.declared.Entry.{Entry}
 use Rattle.rds_entries.specs.Entries.{applicationLength, noEntry}
@@ -25,18 +26,18 @@ isApplication s start len =
 -- section 1: information of 0 to 1,520 octets; of SET_PARAMETERS "items to the end"
 unfoldable pub informationSize : List ℕ → ℕ → ℕ → Bool → ℕ
 informationSize s start len items =
-    pick (ltb 1520 len) 1521
+    pick (ltb informationMost len) tooLong
     (pick (inside (length s) start len)
-    (pick items (pick (itemsFrom len (part s start len)) len 1521) len)
-    1521)
+    (pick items (pick (itemsFrom len (part s start len)) len tooLong) len)
+    tooLong)
 
 -- section 2: "1; 2 ports octet; from 3 on Application ID", with Action 5 "then one octet Serialization Format"
 unfoldable pub askingSize : List ℕ → ℕ → ℕ → ℕ → ℕ
-askingSize s a start len = pick (isApplication s start len) (pick (eqb a 5) (2 + len + 1) (2 + len)) 1521
+askingSize s a start len = pick (isApplication s start len) (pick (eqb a 5) (2 + len + 1) (2 + len)) tooLong
 
 -- section 2, an entry: "ports octet, Application ID, and with Actions 6 and 7 one octet Serialization Format"
 unfoldable pub entrySize : List ℕ → Bool → Entry → ℕ
-entrySize s formats e = pick (isApplication s (e .start) (e .len)) (pick formats (1 + e .len + 1) (1 + e .len)) 1521
+entrySize s formats e = pick (isApplication s (e .start) (e .len)) (pick formats (1 + e .len + 1) (1 + e .len)) tooLong
 
 -- the first n entries
 unfoldable pub entriesSize : List ℕ → Bool → List Entry → ℕ → ℕ
@@ -54,4 +55,4 @@ bodySize s list items (B.Asking a p d start len f) = askingSize s a start len
 bodySize s list items (B.Answer a f t) = pick (eqb a 5) 3 2
 bodySize s list items (B.Query a some p) = pick some 3 1
 bodySize s list items (B.List a some p n) = listSize s list a some n
-bodySize s list items B.Wrong = 1521
+bodySize s list items B.Wrong = tooLong

@@ -11,4 +11,4 @@ run-line-spec =
     (λ c κs. search needs) (λ c κs. search needs) (λ c κs. search needs) (λ c. search needs) (λ c κs. search needs)
     (λ c. search needs)
     (λ c. sym (length-take-le _ _ (c .before .before .octets .ensures)))
-    (λ c κs. search needs) (λ c. search needs) (λ c κs. search needs) (λ c. search needs))
+    (λ c κs. search needs) (λ c. search needs) (λ c κs. search needs) (λ c. search needs) (λ c. search needs))

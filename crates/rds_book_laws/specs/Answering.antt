@@ -1,0 +1,16 @@
+-- Promise 8 (RDS.md, section 9), of one frame: "A command from the peer is answered by exactly one frame, an ERROR command and a response by none."
+use Prim.Native.Nat.{ℕ, _≤_}
+use mathlib.Core.Path.{_≡_}
+use mathlib.Core.List.{List, []}
+use lib.ListN.{length}
+use Rattle.rds_frame.specs.declared.Head.{Head}
+use Rattle.rds_turn.specs.declared.Turn.{Turn}
+use Rattle.rds_receiving.specs.Receiving.{replyOf}
+
+-- one frame is sent, of two octets at least
+abbrev pub SentOne : List ℕ → Turn → Head → Type 0
+SentOne b t h = 2 ≤ length (replyOf b t h)
+
+-- none is
+abbrev pub SentNone : List ℕ → Turn → Head → Type 0
+SentNone b t h = replyOf b t h ≡ []

@@ -1,0 +1,1 @@
+// Laws of the port book's calls; no code.
