@@ -8,6 +8,7 @@ use lib.Dec.{ltb, eqb}
 use Rattle.base_layout.specs.Layout.{peers, cellSize, datagramBound}
 use Rattle.base_lists.specs.Seq.{pick}
 use Rattle.base_numbers.specs.declared.Refusal.the-variants.{WrongLength}
+use Rattle.codec_pdu.specs.Pdu.{infoOf}
 use Rattle.codec_pdu.specs.declared.Kind.{Kind}
 use Rattle.codec_pdu.specs.declared.Pdu.{Pdu}
 use Rattle.codec_reading.specs.Read.{pduOf}
@@ -21,7 +22,7 @@ use Rattle.table_tids.specs.declared.Test.{Test as TidTest}
 use Rattle.table_tids.specs.declared.Test.the-variants.{Valid, Verified}
 use Rattle.row_events.specs.declared.Opening.{Opening}
 use Rattle.row_choice.specs.Rows.{openingOf}
-use Rattle.step_arrivals.specs.Arrivals.{nameOf, eventOf, causeOf, infoOf, wantedOf, arrivedOf}
+use Rattle.step_arrivals.specs.Arrivals.{nameOf, eventOf, causeOf, wantedOf, arrivedOf}
 use Rattle.step_arrivals.specs.declared.Name.{Name}
 use Rattle.step_arrivals.specs.declared.Name.the-variants.{Nobody, Of}
 use Rattle.row_turns.specs.declared.Given.{Given}

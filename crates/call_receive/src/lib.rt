@@ -3,14 +3,15 @@ ghost use mathlib.Core.Path.{_≡_};
 ghost use Prim.Native.Nat.{_≤_, _<_};
 ghost use lib.ListN.{length};
 ghost use Rattle.base_layout.specs.Layout.{timeBound, tidBound, recordsBound};
+ghost use Rattle.codec_pdu.specs.Brief.{asPdu};
 ghost use Rattle.table_layout.specs.Table.{count, recordAt};
 ghost use Rattle.table_well_formed.specs.WellFormed.{WellFormed};
 ghost use Rattle.call_refusal.specs.Judging.{lowest};
 ghost use Rattle.call_receive.specs.Receives.{wrongLength, receiveTests, keptPart, takenStep, isValid, arriverOf, openedStep, unmatchedStep, namingStep, receiveStep, receivePlan};
 use base_numbers::Refusal;
 use call_refusal::Judged;
+use codec_pdu::Brief;
 use codec_pdu::Kind;
-use codec_pdu::Pdu;
 use row_events::Opening;
 use row_turns::Given;
 use step_arrivals::Name;
@@ -60,14 +61,15 @@ fn receive_refusal(
 }
 
 // A PDU that comes to the live record at a place.
-fn taken(t: &[u8], place: usize, time: u64, p: Pdu) -> Step
+fn taken(t: &[u8], place: usize, time: u64, b: Brief) -> Step
     requires { ⌜ WellFormed (now t) ⌝ }
     requires { ⌜ (place < count (now t)) × (recordAt (now t) place .tid ≤ tidBound) × (time ≤ timeBound) ⌝ }
-    ensures { λ r. ⌜ r ≡ takenStep (now (t .entry)) place time p ⌝ }
+    ensures { λ r. ⌜ r ≡ takenStep (now (t .entry)) place time (asPdu b) ⌝ }
 {
-    let event = step_arrivals::event_of(p);
-    let cause = step_arrivals::abort_of(p);
-    let info = step_arrivals::info_of(p);
+    let kind = b.kind;
+    let event = step_arrivals::event_of(kind);
+    let cause = step_arrivals::abort_of(kind);
+    let info = b.info;
     let none = step_plan::no_part();
     let g = Given {
         time: time,
@@ -83,8 +85,8 @@ fn taken(t: &[u8], place: usize, time: u64, p: Pdu) -> Step
             len: info.len,
         },
         user: Part {
-            start: p.start,
-            len: p.len,
+            start: b.start,
+            len: b.len,
         },
         tells: Tells::Nothing,
     };
@@ -92,15 +94,15 @@ fn taken(t: &[u8], place: usize, time: u64, p: Pdu) -> Step
 }
 
 // The data of an Invoke that may be kept: one of more than 1,024 octets is kept nowhere.
-fn kept_part(p: Pdu) -> Part
-    ensures { λ r. ⌜ r ≡ keptPart p ⌝ }
+fn kept_part(b: Brief) -> Part
+    ensures { λ r. ⌜ r ≡ keptPart (asPdu b) ⌝ }
 {
-    if base_layout::CELL_SIZE < p.len {
+    if base_layout::CELL_SIZE < b.len {
         return step_plan::no_part();
     }
     Part {
-        start: p.start,
-        len: p.len,
+        start: b.start,
+        len: b.len,
     }
 }
 
@@ -130,12 +132,12 @@ fn arriver(place: usize, role: Role, peer: u8, tid: u16, kind: Kind) -> Holder
 }
 
 // The step of an opening for this PDU.
-fn opened_by(t: &[u8], opening: Opening, h: Holder, time: u64, p: Pdu) -> Step
+fn opened_by(t: &[u8], opening: Opening, h: Holder, time: u64, b: Brief) -> Step
     requires { ⌜ WellFormed (now t) ⌝ }
     requires { ⌜ (h .place < recordsBound) × (h .tid ≤ tidBound) × (time ≤ timeBound) ⌝ }
-    ensures { λ r. ⌜ r ≡ openedStep (now (t .entry)) opening h time p ⌝ }
+    ensures { λ r. ⌜ r ≡ openedStep (now (t .entry)) opening h time (asPdu b) ⌝ }
 {
-    let message = kept_part(p);
+    let message = kept_part(b);
     let none = step_plan::no_part();
     let g = Given {
         time: time,
@@ -148,8 +150,8 @@ fn opened_by(t: &[u8], opening: Opening, h: Holder, time: u64, p: Pdu) -> Step
         message: message,
         info: none,
         user: Part {
-            start: p.start,
-            len: p.len,
+            start: b.start,
+            len: b.len,
         },
         tells: Tells::Nothing,
     };
@@ -157,19 +159,19 @@ fn opened_by(t: &[u8], opening: Opening, h: Holder, time: u64, p: Pdu) -> Step
 }
 
 // A PDU without a live record.
-fn unmatched(t: &[u8], role: Role, peer: u8, tid: u16, time: u64, s: &[u8], p: Pdu) -> Step
+fn unmatched(t: &[u8], role: Role, peer: u8, tid: u16, time: u64, s: &[u8], b: Brief) -> Step
     requires { ⌜ WellFormed (now t) ⌝ }
     requires { ⌜ (tid ≤ tidBound) × (time ≤ timeBound) ⌝ }
-    ensures { λ r. ⌜ r ≡ unmatchedStep (now (t .entry)) role peer tid time (now (s .entry)) p ⌝ }
+    ensures { λ r. ⌜ r ≡ unmatchedStep (now (t .entry)) role peer tid time (now (s .entry)) (asPdu b) ⌝ }
 {
-    let kind = p.kind;
+    let kind = b.kind;
     let free = table_finding::free(t, table_layout::records(t));
     let full = !table_finding::is_found(free);
     let cached = table_layout::cached_of(t, base_lists::size(peer));
     let valid = is_valid(table_tids::tid_test(cached, tid));
-    let opening = row_choice::opening_of(step_arrivals::arrived(s, p, full, valid));
+    let opening = row_choice::opening_of(step_arrivals::arrived(s, b, full, valid));
     let h = arriver(step_opening::place_for(free), role, peer, tid, kind);
-    opened_by(t, opening, h, time, p)
+    opened_by(t, opening, h, time, b)
 }
 
 // A PDU that names this record.
@@ -178,10 +180,10 @@ fn naming(t: &[u8], role: Role, peer: u8, tid: u16, time: u64, s: &[u8]) -> Step
     requires { ⌜ (tid ≤ tidBound) × (time ≤ timeBound) ⌝ }
     ensures { λ r. ⌜ r ≡ namingStep (now (t .entry)) role peer tid time (now (s .entry)) ⌝ }
 {
-    let p = codec_reading::read(s);
+    let b = codec_reading::brief(s);
     match table_finding::named(t, table_layout::records(t), role, peer as u64, tid as u64) {
-        Found::At(i) => taken(t, i, time, p),
-        Found::Nothing => unmatched(t, role, peer, tid, time, s, p),
+        Found::At(i) => taken(t, i, time, b),
+        Found::Nothing => unmatched(t, role, peer, tid, time, s, b),
     }
 }
 

@@ -1,2 +1,3 @@
 pub mod WalkSteps
 pub mod Forms
+pub mod Finds

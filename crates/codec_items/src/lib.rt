@@ -1,7 +1,9 @@
 // Information items of a PDU (WAP-224, 8.4): one item, and the recursive walk.
 ghost use mathlib.Core.Path.{_≡_};
-ghost use Prim.Native.Nat.{_≤_};
-ghost use Rattle.codec_items.specs.Items.{itemAt, noItems, walkFrom};
+ghost use Prim.Native.Nat.{_≤_, _<_};
+ghost use lib.ListN.{length};
+ghost use Rattle.codec_items.specs.Items.{itemOf, itemAt, noItems, walkFrom};
+ghost use Rattle.codec_items.specs.Found.{endFrom, infoPlace, infoIn};
 use base_numbers::Malformed;
 use base_numbers::Verdict;
 
@@ -19,6 +21,12 @@ pub enum Got {
     Cut,
 }
 
+// Place and length of the data of an Info item; 0 and 0 where there is none.
+pub struct Info {
+    pub start: usize,
+    pub len: usize,
+}
+
 // What the walk finds: the items, how many they are and the place after them; or how they are malformed.
 pub struct Items {
     pub verdict: Verdict,
@@ -27,6 +35,28 @@ pub struct Items {
     pub list: [Item; 16],
 }
 
+// The item with first octet h whose len octets of data start at b, unless it is cut.
+fn item_of(s: &[u8], h: u8, long: bool, b: usize, len: usize) -> Got
+    requires { ⌜ (b ≤ length (now s)) × (len < 256) ⌝ }
+    ensures { λ r. ⌜ r ≡ itemOf (now (s .entry)) h long b len ⌝ }
+{
+    if len <= s.len() - b {
+        Got::One {
+            item: Item {
+                identity: h / 8 % 16,
+                long: long,
+                start: b,
+                len: len,
+            },
+            con: 128 <= h,
+            next: b + len,
+        }
+    } else {
+        Got::Cut
+    }
+}
+
+// What stands at a place.
 pub fn item_at(s: &[u8], at: usize) -> Got
     ensures { λ r. ⌜ r ≡ itemAt (now (s .entry)) at ⌝ }
 {
@@ -35,45 +65,14 @@ pub fn item_at(s: &[u8], at: usize) -> Got
     }
     let h = s[at];
     let b = at + 1;
-    let identity = h / 8 % 16;
-    let con = 128 <= h;
     if h / 4 % 2 == 0 {
-        let len = (h % 4) as usize;
-        if len <= s.len() - b {
-            Got::One {
-                item: Item {
-                    identity: identity,
-                    long: false,
-                    start: b,
-                    len: len,
-                },
-                con: con,
-                next: b + len,
-            }
-        } else {
-            Got::Cut
-        }
-    } else {
-        if s.len() <= b {
-            return Got::Cut;
-        }
-        let len = s[b] as usize;
-        let d = b + 1;
-        if len <= s.len() - d {
-            Got::One {
-                item: Item {
-                    identity: identity,
-                    long: true,
-                    start: d,
-                    len: len,
-                },
-                con: con,
-                next: d + len,
-            }
-        } else {
-            Got::Cut
-        }
+        return item_of(s, h, false, b, base_lists::size(h % 4));
     }
+    if s.len() <= b {
+        return Got::Cut;
+    }
+    let len = s[b];
+    item_of(s, h, true, b + 1, base_lists::size(len))
 }
 
 // No items, up to the place `end`.
@@ -118,4 +117,68 @@ pub fn walk(s: &[u8], at: usize, left: usize, read: [Item; 16]) -> Items
             }
         }
     }
+}
+
+// The place after the items from `at` on, of which `left` are still permitted; 0 where one is cut, 1 where one more follows.
+pub fn end_from(s: &[u8], at: usize, left: usize) -> usize
+    ensures { λ r. ⌜ r ≡ endFrom left (now (s .entry)) at ⌝ }
+{
+    if left == 0 {
+        return 1;
+    }
+    match item_at(s, at) {
+        Got::Cut => 0,
+        Got::One { con, next, .. } => {
+            if con {
+                end_from(s, next, left - 1)
+            } else {
+                next
+            }
+        }
+    }
+}
+
+// The place of the first Info item among the items from `at` on, `left` at most; 0 where there is none.
+fn info_place(s: &[u8], at: usize, left: usize) -> usize
+    ensures { λ r. ⌜ r ≡ infoPlace left (now (s .entry)) at ⌝ }
+{
+    if left == 0 {
+        return 0;
+    }
+    match item_at(s, at) {
+        Got::Cut => 0,
+        Got::One { item, con, next } => {
+            if item.identity == 1 {
+                return at;
+            }
+            if con {
+                info_place(s, next, left - 1)
+            } else {
+                0
+            }
+        }
+    }
+}
+
+// The data of the Info item at a place that isn't 0.
+fn info_in(s: &[u8], place: usize) -> Info
+    ensures { λ r. ⌜ r ≡ infoIn (now (s .entry)) place ⌝ }
+{
+    if place == 0 {
+        return Info { start: 0, len: 0 };
+    }
+    match item_at(s, place) {
+        Got::Cut => Info { start: 0, len: 0 },
+        Got::One { item, .. } => Info {
+            start: item.start,
+            len: item.len,
+        },
+    }
+}
+
+// The data of the first Info item among the items from `at` on.
+pub fn info_from(s: &[u8], at: usize) -> Info
+    ensures { λ r. ⌜ r ≡ infoIn (now (s .entry)) (infoPlace 16 (now (s .entry)) at) ⌝ }
+{
+    info_in(s, info_place(s, at, 16))
 }

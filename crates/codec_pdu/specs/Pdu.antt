@@ -1,7 +1,11 @@
 -- A PDU by value (01, "Bytes on the air").
 use mathlib.Core.Bool.{Bool, true, false}
 use lib.ListN.{replicate}
+use lib.Dec.{leb}
+use Rattle.base_lists.specs.Seq.{pick}
 use Rattle.codec_items.specs.Items.{noItem}
+use Rattle.codec_items.specs.Info.{infoFrom}
+use Rattle.codec_items.specs.declared.Info.{Info}
 use Rattle.codec_pdu.specs.declared.Kind.{Kind}
 use Rattle.codec_pdu.specs.declared.Kind.the-variants.{Invoke, Result, Ack, Abort, SegInvoke, SegResult, Nack, Wrong, Refused}
 use Rattle.codec_pdu.specs.declared.Pdu.{Pdu}
@@ -33,3 +37,7 @@ bareOf (Refused r) = false
 -- no PDU, for the reason that the kind says
 unfoldable pub blankPdu : Kind → Pdu
 blankPdu k = record { kind = k; tid = 0; count = 0; list = replicate 16 noItem; start = 0; len = 0 }
+
+-- 01: "A confirmation's data is that of the first Info item of its Ack, else empty"; "At most 16 items"
+unfoldable pub infoOf : Pdu → Info
+infoOf p = infoFrom (pick (leb (p .count) 16) (p .count) 16) (p .list) 0

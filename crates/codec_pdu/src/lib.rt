@@ -1,9 +1,11 @@
 // A PDU by value (WAP-224, 8.3): its kind with the fields of its fixed header, its items and its user data.
 ghost use mathlib.Core.Path.{_≡_};
 ghost use Rattle.codec_pdu.specs.Pdu.{soundOf, bareOf, blankPdu};
+ghost use Rattle.codec_pdu.specs.Brief.{briefOf};
 use base_numbers::Malformed;
 use base_numbers::Refusal;
 use base_numbers::Verdict;
+use codec_items::Info;
 use codec_items::Item;
 
 // The kind of a PDU with what its fixed header says; or why there is none.
@@ -61,6 +63,15 @@ pub struct Pdu {
     pub len: usize,
 }
 
+// What the engine takes of a PDU: all but its items, and of these the first Info item.
+pub struct Brief {
+    pub kind: Kind,
+    pub tid: u16,
+    pub info: Info,
+    pub start: usize,
+    pub len: usize,
+}
+
 // Whether there is a PDU of this kind.
 pub fn sound(kind: Kind) -> bool
     ensures { λ r. ⌜ r ≡ soundOf kind ⌝ }
@@ -106,6 +117,19 @@ pub fn blank(kind: Kind) -> Pdu
         tid: 0,
         count: 0,
         list: list,
+        start: 0,
+        len: 0,
+    }
+}
+
+// The brief of no PDU, for the reason that the kind says.
+pub fn blank_brief(kind: Kind) -> Brief
+    ensures { λ r. ⌜ r ≡ briefOf (blankPdu kind) ⌝ }
+{
+    Brief {
+        kind: kind,
+        tid: 0,
+        info: Info { start: 0, len: 0 },
         start: 0,
         len: 0,
     }

@@ -11,7 +11,8 @@ use Rattle.base_lists.specs.Seq.{pick}
 use Rattle.base_lists.proofs.StoresAndParts.{told, lt-or-le}
 use Rattle.codec_items.specs.declared.Item.{Item}
 use Rattle.codec_pdu.specs.declared.Pdu.{Pdu}
-use Rattle.step_arrivals.specs.Arrivals.{infoFrom, infoOf, itemIn, dataOf}
+use Rattle.codec_items.specs.Info.{infoFrom, itemIn, dataOf}
+use Rattle.codec_pdu.specs.Pdu.{infoOf}
 use Rattle.step_arrivals.specs.FirstInfo.{IsInfo, Says}
 
 -- an Info item is further on where the one at `at` is none

@@ -1,4 +1,3 @@
-pub mod InfoSearch
 pub mod First
 pub mod Names
 pub mod ReadTid

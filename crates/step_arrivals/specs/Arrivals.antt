@@ -1,13 +1,11 @@
 -- What a received PDU is to the engine (01, "TIDs" and "Events").
-use Prim.Native.Nat.{ℕ, zero, suc, _+_, _*_, _%_}
+use Prim.Native.Nat.{ℕ, _+_, _*_, _%_}
 use mathlib.Core.List.{List}
 use mathlib.Core.Bool.{Bool, false, not}
 use lib.ListN.{length, getD}
 use lib.Dec.{ltb, leb, eqb}
 use Rattle.base_layout.specs.Layout.{tidCount, cellSize}
 use Rattle.base_lists.specs.Seq.{pick}
-use Rattle.codec_items.specs.Items.{noItem}
-use Rattle.codec_items.specs.declared.Item.{Item}
 use Rattle.codec_pdu.specs.Pdu.{soundOf}
 use Rattle.codec_pdu.specs.declared.Kind.{Kind}
 use Rattle.codec_pdu.specs.declared.Kind.the-variants.{Invoke, Result, Ack, Abort, SegInvoke, SegResult, Nack, Wrong, Refused}
@@ -21,7 +19,6 @@ use Rattle.row_choice.specs.declared.Arrived.{Arrived}
 use Rattle.step_arrivals.specs.declared.Name.{Name}
 use Rattle.step_arrivals.specs.declared.Name.the-variants.{Nobody, Of}
 use Rattle.step_arrivals.specs.declared.Cause.{Cause}
-use Rattle.step_arrivals.specs.declared.Info.{Info}
 use Rattle.step_arrivals.specs.declared.Wanted.{Wanted}
 
 -- 01: "then the TID, high octet first"; its top bit is 1 from 32,768 on
@@ -72,26 +69,6 @@ causeOf (SegResult gtr ttr rid p) = noCause
 causeOf (Nack rid n l) = noCause
 causeOf (Wrong d) = noCause
 causeOf (Refused r) = noCause
-
--- no Info item
-abbrev pub noInfo : Info
-noInfo = record { start = 0; len = 0 }
-
--- the item at a place, and its data
-abbrev pub itemIn : List Item → ℕ → Item
-itemIn list at = getD list at noItem
-
-abbrev pub dataOf : Item → Info
-dataOf item = record { start = item .start; len = item .len }
-
--- the first Info item, identity 1, among the items from `at` on, as many as the first argument says
-unfoldable pub infoFrom : ℕ → List Item → ℕ → Info
-infoFrom zero list at = noInfo
-infoFrom (suc left) list at = pick (eqb (itemIn list at .identity) 1) (dataOf (itemIn list at)) (infoFrom left list (at + 1))
-
--- 01: "A confirmation's data is that of the first Info item of its Ack, else empty"; "At most 16 items"
-unfoldable pub infoOf : Pdu → Info
-infoOf p = infoFrom (pick (leb (p .count) 16) (p .count) 16) (p .list) 0
 
 -- 01: "type 1, at least three octets and top bit 0", malformed or not
 unfoldable pub invokesUs : List ℕ → Bool

@@ -4,8 +4,8 @@ use mathlib.Core.Path.{_≡_}
 use mathlib.Core.List.{List}
 use mathlib.Core.Logic.{_⊎_}
 use Rattle.codec_items.specs.declared.Item.{Item}
-use Rattle.step_arrivals.specs.declared.Info.{Info}
-use Rattle.step_arrivals.specs.Arrivals.{noInfo, itemIn, dataOf}
+use Rattle.codec_items.specs.declared.Info.{Info}
+use Rattle.codec_items.specs.Info.{noInfo, itemIn, dataOf}
 
 -- item i of a list is an Info item
 abbrev pub IsInfo : List Item → ℕ → Type 0

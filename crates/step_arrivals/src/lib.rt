@@ -1,12 +1,12 @@
 // What a received PDU is to the engine (01, "TIDs" and "Events"): whom it names, which event it is, what it brings.
 ghost use mathlib.Core.Path.{_≡_};
-ghost use Prim.Native.Nat.{_+_, _≤_, _<_};
+ghost use Prim.Native.Nat.{_≤_, _<_};
 ghost use lib.ListN.{length};
-ghost use Rattle.step_arrivals.specs.Arrivals.{tidOf, nameOf, eventOf, noCause, causeOf, infoFrom, infoOf, invokesUs, isTidve, noWant, wantedOf, arrivedOf};
+ghost use Rattle.codec_pdu.specs.Brief.{asPdu};
+ghost use Rattle.step_arrivals.specs.Arrivals.{tidOf, nameOf, eventOf, noCause, causeOf, invokesUs, isTidve, noWant, wantedOf, arrivedOf};
 use base_layout::TID_COUNT;
-use codec_items::Item;
+use codec_pdu::Brief;
 use codec_pdu::Kind;
-use codec_pdu::Pdu;
 use row_choice::Arrived;
 use row_events::Event;
 use table_record::Role;
@@ -21,12 +21,6 @@ pub enum Name {
 pub struct Cause {
     pub abort_type: u8,
     pub reason: u8,
-}
-
-// Place and length of the data of an Info item.
-pub struct Info {
-    pub start: usize,
-    pub len: usize,
 }
 
 // What an Invoke asks for.
@@ -72,11 +66,10 @@ pub fn named_by(s: &[u8]) -> Name
     Name::Of(Role::Initiator, tid % TID_COUNT)
 }
 
-// The event that a PDU is to a live record. A refused length never comes here: it counts as malformed.
-pub fn event_of(p: Pdu) -> Event
-    ensures { λ r. ⌜ r ≡ eventOf (p .kind) ⌝ }
+// The event that a PDU of this kind is to a live record. A refused length never comes here: it counts as malformed.
+pub fn event_of(kind: Kind) -> Event
+    ensures { λ r. ⌜ r ≡ eventOf kind ⌝ }
 {
-    let kind = p.kind;
     match kind {
         Kind::Invoke { rid, .. } => { if rid { Event::InvokeRid } else { Event::Invoke } }
         Kind::Result { ttr, rid, .. } => {
@@ -116,10 +109,9 @@ fn no_cause() -> Cause
 }
 
 // Type and reason of an Abort; 0 and 0 of any other PDU.
-pub fn abort_of(p: Pdu) -> Cause
-    ensures { λ r. ⌜ r ≡ causeOf (p .kind) ⌝ }
+pub fn abort_of(kind: Kind) -> Cause
+    ensures { λ r. ⌜ r ≡ causeOf kind ⌝ }
 {
-    let kind = p.kind;
     match kind {
         Kind::Abort { abort_type, reason } => Cause {
             abort_type: abort_type,
@@ -134,34 +126,6 @@ pub fn abort_of(p: Pdu) -> Cause
         Kind::Wrong(_) => no_cause(),
         Kind::Refused(_) => no_cause(),
     }
-}
-
-// The first Info item among the `left` items from `at` on.
-fn info_from(list: [Item; 16], at: usize, left: usize) -> Info
-    requires { ⌜ at + left ≤ 16 ⌝ }
-    ensures { λ r. ⌜ r ≡ infoFrom left list at ⌝ }
-{
-    if left == 0 {
-        return Info { start: 0, len: 0 };
-    }
-    if list[at].identity == 1 {
-        return Info {
-            start: list[at].start,
-            len: list[at].len,
-        };
-    }
-    info_from(list, at + 1, left - 1)
-}
-
-// The data of the first Info item of a PDU.
-pub fn info_of(p: Pdu) -> Info
-    ensures { λ r. ⌜ r ≡ infoOf p ⌝ }
-{
-    let list = p.list;
-    if p.count <= 16 {
-        return info_from(list, 0, p.count);
-    }
-    info_from(list, 0, 16)
 }
 
 // Whether the octets are an Invoke with top bit 0, malformed or not.
@@ -234,12 +198,12 @@ pub fn wanted_by(kind: Kind) -> Wanted
 }
 
 // What the octets s and the PDU read from them are where no live record is named.
-pub fn arrived(s: &[u8], p: Pdu, full: bool, valid: bool) -> Arrived
-    ensures { λ r. ⌜ r ≡ arrivedOf (now (s .entry)) p full valid ⌝ }
+pub fn arrived(s: &[u8], b: Brief, full: bool, valid: bool) -> Arrived
+    ensures { λ r. ⌜ r ≡ arrivedOf (now (s .entry)) (asPdu b) full valid ⌝ }
 {
-    let kind = p.kind;
+    let kind = b.kind;
     let invoke = invokes_us(s);
-    let tidve = is_tidve(kind, p.tid);
+    let tidve = is_tidve(kind, b.tid);
     let malformed = !codec_pdu::sound(kind);
     let want = wanted_by(kind);
     Arrived {
@@ -249,7 +213,7 @@ pub fn arrived(s: &[u8], p: Pdu, full: bool, valid: bool) -> Arrived
         class: want.class,
         wrong_version: want.wrong_version,
         ttr_clear: want.ttr_clear,
-        too_long: base_layout::CELL_SIZE < p.len,
+        too_long: base_layout::CELL_SIZE < b.len,
         full: full,
         valid: valid,
     }

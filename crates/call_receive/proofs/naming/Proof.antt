@@ -1,5 +1,7 @@
 -- `call_receive::naming` meets its contract: the way to each return picks the case of the definition. Assumes nothing.
+use mathlib.Core.Path.{_∙_}
 use Rattle.law_places.proofs.Whole.{named-whole}
+use Rattle.call_receive.proofs.Briefed.{taken-same, unmatched-same}
 use Rattle.call_receive.specs.Receives.{namingStep}
 use borrow.Author.Needs.{needs}
 use Rattle.call_receive.proofs.naming.Statement.{statement}
@@ -16,5 +18,5 @@ naming-spec =
     tie.close (tie.spec
     (λ c κs. search needs) (λ c κs. search needs) (λ c κs. search needs) (λ c. search needs) taken-requires
     (λ c. search needs) (λ c κs. search needs)
-    (λ c. simp (c .taken .ensures, c .before .before .i .given .1, ← (c .before .before .before .before .named .ensures), ← (c .before .before .before .before .before .records .ensures), c .before .before .before .before .before .before .read .ensures))
-    (λ c. simp (c .unmatched .ensures, c .before .enum-told .given .1, ← (c .before .before .before .named .ensures), ← (c .before .before .before .before .records .ensures), c .before .before .before .before .before .read .ensures)))
+    (λ c. c .taken .ensures ∙ taken-same _ _ _ _ (c .before .before .before .before .before .before .brief .ensures) _ ∙ simp (c .before .before .i .given .1, ← (c .before .before .before .before .named .ensures), ← (c .before .before .before .before .before .records .ensures)))
+    (λ c. c .unmatched .ensures ∙ unmatched-same _ _ _ _ (c .before .before .before .before .before .brief .ensures) _ _ _ _ ∙ simp (c .before .enum-told .given .1, ← (c .before .before .before .named .ensures), ← (c .before .before .before .before .records .ensures))))

@@ -1,6 +1,7 @@
 -- `call_receive::unmatched` meets its contract: the way to each return picks the case of the definition. Assumes nothing.
 use Rattle.law_places.proofs.Whole.{free-small}
 use Rattle.call_receive.proofs.Holders.{opened-here}
+use Rattle.codec_pdu.specs.Brief.{asPdu}
 use Rattle.call_receive.specs.Receives.{unmatchedStep, arrivalOpening}
 use borrow.Author.Needs.{needs}
 use Rattle.call_receive.proofs.unmatched.Statement.{statement}
@@ -13,7 +14,7 @@ opened-by-requires c κs =
     (c .before .before .before .before .before .before .before .before .before .before .before .before .before .pre .0, (here .0, here .1, c .before .before .before .before .before .before .before .before .before .before .before .before .before .pre .1 .1))
 
 pub unmatched-spec : {M : Type 1} → statement M
-unfolding unmatchedStep arrivalOpening
+unfolding unmatchedStep arrivalOpening asPdu
 unmatched-spec =
     tie.close (tie.spec
     (λ c κs. search needs) (λ c κs. search needs) (λ c κs. search needs) (λ c κs. search needs) (λ c κs. search needs)

@@ -1,5 +1,5 @@
 -- `codec_reading::head_of` meets its contract: the tests that lead to each return pick the case of `headOf`. Assumes nothing.
-use borrow.Author.Tests.{lt-ltb, le-ltb, eq-eqb, ne-eqb}
+use borrow.Author.Tests.{eq-eqb, le-ltb, lt-ltb, ne-eqb}
 use Rattle.codec_reading.specs.Read.{headOf}
 use borrow.Author.Needs.{needs}
 use Rattle.codec_reading.proofs.head_of.Statement.{statement}
@@ -15,16 +15,9 @@ head-of-spec =
     (λ c. simp (c .bad-head2 .ensures, lt-ltb _ _ (c .before .if2 .taken), ne-eqb _ _ (c .before .before .if1 .left)))
     (λ c κs. search needs)
     (λ c. simp (c .bad-head3 .ensures, lt-ltb _ _ (c .before .if3 .taken), le-ltb _ _ (c .before .before .if2 .left), ne-eqb _ _ (c .before .before .before .if1 .left)))
-    (λ c. search needs) (λ c κs. search needs) (λ c. search needs) (λ c. search needs) (λ c κs. search needs)
-    (λ c. search needs) (λ c κs. search needs)
-    (λ c. simp (c .kind-of .ensures, eq-eqb _ _ (c .before .if4 .taken), c .before .before .wide2 .ensures .0, c .before .before .before .before .wide .ensures .0, le-ltb _ _ (c .before .before .before .before .before .before .if3 .left), le-ltb _ _ (c .before .before .before .before .before .before .before .if2 .left), ne-eqb _ _ (c .before .before .before .before .before .before .before .before .if1 .left)))
     (λ c κs. search needs)
-    (λ c. simp (c .kind-of2 .ensures, eq-eqb _ _ (c .before .if5 .taken), ne-eqb _ _ (c .before .before .if4 .left), c .before .before .before .wide2 .ensures .0, c .before .before .before .before .before .wide .ensures .0, le-ltb _ _ (c .before .before .before .before .before .before .before .if3 .left), le-ltb _ _ (c .before .before .before .before .before .before .before .before .if2 .left), ne-eqb _ _ (c .before .before .before .before .before .before .before .before .before .if1 .left)))
+    (λ c. simp (c .good-head .ensures, eq-eqb _ _ (c .before .if4 .taken), le-ltb _ _ (c .before .before .if3 .left), le-ltb _ _ (c .before .before .before .if2 .left), ne-eqb _ _ (c .before .before .before .before .if1 .left)))
     (λ c κs. search needs)
-    (λ c. simp (c .bad-head4 .ensures, lt-ltb _ _ (c .before .if6 .taken), ne-eqb _ _ (c .before .before .if5 .left), ne-eqb _ _ (c .before .before .before .if4 .left), c .before .before .before .before .wide2 .ensures .0, c .before .before .before .before .before .before .wide .ensures .0, le-ltb _ _ (c .before .before .before .before .before .before .before .before .if3 .left), le-ltb _ _ (c .before .before .before .before .before .before .before .before .before .if2 .left), ne-eqb _ _ (c .before .before .before .before .before .before .before .before .before .before .if1 .left)))
-    (λ c. search needs) (λ c κs. search needs) (λ c. search needs) (λ c κs. search needs)
-    (λ c. simp (c .bad-head5 .ensures, lt-ltb _ _ (rw (c .before .before .size .ensures .0) at (c .before .if8 .taken)), c .before .before .size .ensures .0, eq-eqb _ _ (c .before .before .before .if7 .taken), le-ltb _ _ (c .before .before .before .before .before .if6 .left), ne-eqb _ _ (c .before .before .before .before .before .before .if5 .left), ne-eqb _ _ (c .before .before .before .before .before .before .before .if4 .left), c .before .before .before .before .before .before .before .before .wide2 .ensures .0, c .before .before .before .before .before .before .before .before .before .before .wide .ensures .0, le-ltb _ _ (c .before .before .before .before .before .before .before .before .before .before .before .before .if3 .left), le-ltb _ _ (c .before .before .before .before .before .before .before .before .before .before .before .before .before .if2 .left), ne-eqb _ _ (c .before .before .before .before .before .before .before .before .before .before .before .before .before .before .if1 .left)))
+    (λ c. simp (c .good-head2 .ensures, eq-eqb _ _ (c .before .if5 .taken), ne-eqb _ _ (c .before .before .if4 .left), le-ltb _ _ (c .before .before .before .if3 .left), le-ltb _ _ (c .before .before .before .before .if2 .left), ne-eqb _ _ (c .before .before .before .before .before .if1 .left)))
     (λ c κs. search needs)
-    (λ c. simp (c .kind-of3 .ensures, le-ltb _ _ (rw (c .before .before .size .ensures .0) at (c .before .if8 .left)), c .before .before .size .ensures .0, eq-eqb _ _ (c .before .before .before .if7 .taken), le-ltb _ _ (c .before .before .before .before .before .if6 .left), ne-eqb _ _ (c .before .before .before .before .before .before .if5 .left), ne-eqb _ _ (c .before .before .before .before .before .before .before .if4 .left), c .before .before .before .before .before .before .before .before .wide2 .ensures .0, c .before .before .before .before .before .before .before .before .before .before .wide .ensures .0, le-ltb _ _ (c .before .before .before .before .before .before .before .before .before .before .before .before .if3 .left), le-ltb _ _ (c .before .before .before .before .before .before .before .before .before .before .before .before .before .if2 .left), ne-eqb _ _ (c .before .before .before .before .before .before .before .before .before .before .before .before .before .before .if1 .left)))
-    (λ c κs. search needs)
-    (λ c. simp (c .kind-of4 .ensures, ne-eqb _ _ (c .before .if7 .left), le-ltb _ _ (c .before .before .before .if6 .left), ne-eqb _ _ (c .before .before .before .before .if5 .left), ne-eqb _ _ (c .before .before .before .before .before .if4 .left), c .before .before .before .before .before .before .wide2 .ensures .0, c .before .before .before .before .before .before .before .before .wide .ensures .0, le-ltb _ _ (c .before .before .before .before .before .before .before .before .before .before .if3 .left), le-ltb _ _ (c .before .before .before .before .before .before .before .before .before .before .before .if2 .left), ne-eqb _ _ (c .before .before .before .before .before .before .before .before .before .before .before .before .if1 .left))))
+    (λ c. rw (ne-eqb _ _ (c .before .before .before .before .before .if1 .left), le-ltb _ _ (c .before .before .before .before .if2 .left), le-ltb _ _ (c .before .before .before .if3 .left), ne-eqb _ _ (c .before .before .if4 .left), ne-eqb _ _ (c .before .if5 .left)) (c .long-head .ensures)))

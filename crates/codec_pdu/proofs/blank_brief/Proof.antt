@@ -1,0 +1,11 @@
+-- `codec_pdu::blank_brief` meets its contract. Assumes nothing.
+use mathlib.Core.Path.{refl}
+use Rattle.codec_items.specs.Info.{infoFrom}
+use Rattle.codec_pdu.specs.Pdu.{blankPdu, infoOf}
+use Rattle.codec_pdu.specs.Brief.{briefOf}
+use Rattle.codec_pdu.proofs.blank_brief.Statement.{statement}
+use Rattle.codec_pdu.proofs.blank_brief.Tie as tie
+
+pub blank-brief-spec : {M : Type 1} → statement M
+unfolding blankPdu briefOf infoOf infoFrom
+blank-brief-spec = tie.close (tie.spec (λ c. refl))

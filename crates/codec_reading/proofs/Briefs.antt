@@ -1,0 +1,94 @@
+-- What is read without a list of the items is what the engine takes of the PDU. Assumes nothing.
+use Prim.Native.Nat.{ℕ, _+_, _-_, _≤_}
+use native.Mathlib.Omega.{arith}
+use borrow.Author.Tests.{ne-eqb, le-ltb}
+use mathlib.Core.Path.{_≡_, refl, sym}
+use mathlib.Core.List.{List}
+use mathlib.Core.Bool.{Bool, true, false}
+use mathlib.Core.Logic.{_⊎_, inl, inr}
+use lib.ListN.{length, getD, replicate}
+use lib.Dec.{ltb, leb, eqb}
+use Rattle.base_lists.specs.Seq.{pick}
+use Rattle.base_lists.proofs.StoresAndParts.{true-false}
+use Rattle.base_numbers.specs.declared.Malformed.the-variants.{D1, D2, D3, D4, D7}
+use Rattle.base_numbers.specs.declared.Verdict.the-variants.{Sound, Bad}
+use Rattle.codec_items.specs.declared.Items.{Items}
+use Rattle.codec_items.specs.Items.{noItem, noItems, walkFrom}
+use Rattle.codec_items.specs.Info.{infoFrom}
+use Rattle.codec_items.specs.Found.{endFrom, itemsFrom}
+use Rattle.codec_items.proofs.Finds.{Finds, finds, end-inside, info-found}
+use Rattle.codec_pdu.specs.Pdu.{soundOf, bareOf, blankPdu, infoOf}
+use Rattle.codec_pdu.specs.Brief.{briefOf}
+use Rattle.codec_pdu.specs.declared.Kind.the-variants.{Wrong}
+use Rattle.codec_reading.specs.declared.Head.{Head}
+use Rattle.codec_reading.specs.Read.{typeOf, badHead, goodHead, longHead, headOf, whole, finished, itemsAfter, afterHead, pduOf}
+use Rattle.codec_reading.specs.Brief.{endAfter, infoAfter, wholeBrief, wrongBrief, endedBrief}
+
+-- a sound header has three octets or more
+abbrev Far : Head → Type 0
+Far h = soundOf (h .kind) ≡ true → 3 ≤ h .end
+
+module _ (s : List ℕ) where
+  long-far : Far (longHead s)
+  unfolding soundOf
+  long-far = go (ltb (length s) 4) (eqb (typeOf s) 7) (ltb (length s) (getD s 3 0 + 4))
+    where
+      go : (a b c : Bool) → Far (pick a (badHead D1) (pick b (pick c (badHead D1) (goodHead s 7 (getD s 3 0) (getD s 3 0 + 4))) (goodHead s (typeOf s) (getD s 3 0) 4)))
+      go true b c e = true-false (sym e)
+      go false true true e = true-false (sym e)
+      go false true false e = omega arith
+      go false false c e = omega arith
+
+  pub head-far : Far (headOf s)
+  unfolding headOf soundOf
+  head-far = go (eqb (typeOf s) 0) (ltb 7 (typeOf s)) (ltb (length s) 3) (eqb (typeOf s) 2) (eqb (typeOf s) 3)
+    where
+      go : (a b c d f : Bool) → Far (pick a (badHead D2) (pick b (badHead D2) (pick c (badHead D1) (pick d (goodHead s 2 0 3) (pick f (goodHead s 3 0 3) (longHead s))))))
+      go true b c d f e = true-false (sym e)
+      go false true c d f e = true-false (sym e)
+      go false false true d f e = true-false (sym e)
+      go false false false true f e = omega arith
+      go false false false false true e = omega arith
+      go false false false false false e = long-far e
+
+  pub after-inside : (h : Head) → 1 ≤ length s → h .end ≤ length s → endAfter s h ≤ length s
+  unfolding endAfter
+  after-inside h l i = go (h .con)
+    where
+      go : (b : Bool) → pick b (endFrom 16 s (h .end)) (h .end) ≤ length s
+      go true = end-inside s 16 (h .end) l
+      go false = i
+
+  module _ (h : Head) where
+    -- items that end well
+    ends-well : (i : Items) (end : ℕ) → 2 ≤ end → i .verdict ≡ Sound → i .end ≡ end → infoFrom (pick (leb (i .count) 16) (i .count) 16) (i .list) 0 ≡ infoAfter s h
+        → endedBrief s h end ≡ briefOf (finished s h i)
+    unfolding endedBrief finished wholeBrief briefOf infoOf
+    ends-well i end l v e q = rw (ne-eqb end 0 (λ (z : end ≡ 0). absurd (omega arith)), ne-eqb end 1 (λ (z : end ≡ 1). absurd (omega arith)), v, e) (go (bareOf (h .kind)) (eqb (length s - end) 0))
+      where
+        go : (a b : Bool) → pick a (pick b (wholeBrief s h 0 0) (wrongBrief (Wrong D7))) (wholeBrief s h end (length s - end)) ≡ briefOf (pick a (pick b (whole h i 0 0) (blankPdu (Wrong D7))) (whole h i end (length s - end)))
+        go true true = rw q
+        go true false = refl
+        go false b = rw q
+
+    pub ended-brief : 3 ≤ h .end → endedBrief s h (endAfter s h) ≡ briefOf (finished s h (itemsAfter s h))
+    unfolding endAfter itemsAfter infoAfter endedBrief finished infoFrom
+    ended-brief l = go (h .con) refl
+      where
+        by : h .con ≡ true → (end : ℕ) (i : Items) → Finds 16 (replicate 16 noItem) (itemsFrom 16 s (h .end)) end i → endedBrief s h end ≡ briefOf (finished s h i)
+        by p end i (inl (e, w)) = rw (e, w)
+        by p end i (inr (inl (e, w))) = rw (e, w)
+        by p end i (inr (inr w)) = ends-well i end (w .far) (w .sound) (w .ends) (rw p (info-found s (h .end) (omega arith) end i w))
+
+        go : (b : Bool) → h .con ≡ b → endedBrief s h (pick b (endFrom 16 s (h .end)) (h .end)) ≡ briefOf (finished s h (pick b (walkFrom 16 s (h .end) (replicate 16 noItem)) (noItems Sound (h .end))))
+        go true p = by p _ _ (finds s 16 (h .end) (replicate 16 noItem) (omega arith) (omega arith))
+        go false p = ends-well (noItems Sound (h .end)) (h .end) (omega arith) refl refl (rw p)
+
+  module _ (some : 1 ≤ length s) (few : length s ≤ 1500) where
+    pub brief-sound : soundOf (headOf s .kind) ≡ true → endedBrief s (headOf s) (endAfter s (headOf s)) ≡ briefOf (pduOf s)
+    unfolding pduOf afterHead
+    brief-sound k = rw (ne-eqb (length s) 0 (λ (z : length s ≡ 0). absurd (omega arith)), le-ltb 1500 (length s) few, k) (ended-brief (headOf s) (head-far k))
+
+    pub brief-unsound : soundOf (headOf s .kind) ≡ false → briefOf (blankPdu (headOf s .kind)) ≡ briefOf (pduOf s)
+    unfolding pduOf afterHead
+    brief-unsound k = rw (ne-eqb (length s) 0 (λ (z : length s ≡ 0). absurd (omega arith)), le-ltb 1500 (length s) few, k)
