@@ -83,8 +83,7 @@ pub extern "C" fn wtp_request(
     if too_few(answer) {
         return base_numbers::number(Refusal::WrongSize);
     }
-    let a = call_engine::request(table, store, out, time, peer, class, 0 < user_ack, user);
-    c_answers::give(answer, a)
+    call_engine::request(table, store, out, answer, time, peer, class, 0 < user_ack, user)
 }
 
 // A user's answer with exit information.
@@ -105,8 +104,7 @@ pub extern "C" fn wtp_answer(
     if too_few(answer) {
         return base_numbers::number(Refusal::WrongSize);
     }
-    let a = call_engine::answer(table, store, out, time, role, peer, tid, exit);
-    c_answers::give(answer, a)
+    call_engine::answer(table, store, out, answer, time, role, peer, tid, exit)
 }
 
 // A user's result with its data.
@@ -127,8 +125,7 @@ pub extern "C" fn wtp_result(
     if too_few(answer) {
         return base_numbers::number(Refusal::WrongSize);
     }
-    let a = call_engine::result(table, store, out, time, role, peer, tid, user);
-    c_answers::give(answer, a)
+    call_engine::result(table, store, out, answer, time, role, peer, tid, user)
 }
 
 // A user's abort with its reason.
@@ -149,8 +146,7 @@ pub extern "C" fn wtp_abort(
     if too_few(answer) {
         return base_numbers::number(Refusal::WrongSize);
     }
-    let a = call_engine::abort(table, store, out, time, role, peer, tid, reason);
-    c_answers::give(answer, a)
+    call_engine::abort(table, store, out, answer, time, role, peer, tid, reason)
 }
 
 // One PDU that came from a peer.
@@ -169,8 +165,7 @@ pub extern "C" fn wtp_receive(
     if too_few(answer) {
         return base_numbers::number(Refusal::WrongSize);
     }
-    let a = call_engine::receive(table, store, out, time, peer, octets);
-    c_answers::give(answer, a)
+    call_engine::receive(table, store, out, answer, time, peer, octets)
 }
 
 // Fires one due record.
@@ -187,6 +182,5 @@ pub extern "C" fn wtp_timer(
     if too_few(answer) {
         return base_numbers::number(Refusal::WrongSize);
     }
-    let a = call_engine::timer(table, store, out, time);
-    c_answers::give(answer, a)
+    call_engine::timer(table, store, out, answer, time)
 }
