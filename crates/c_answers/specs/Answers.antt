@@ -6,8 +6,14 @@ use Rattle.base_lists.specs.Seq.{put}
 use Rattle.base_numbers.specs.Numbers.{numberOf}
 use Rattle.table_record.specs.Record.{roleNumber}
 use Rattle.step_shown.specs.declared.Shown.{Shown}
+use Rattle.step_shown.specs.declared.Shown.the-variants as Shown
 use Rattle.step_shown.specs.Kinds.{byKind}
 use Rattle.step_shown.specs.Words.{shownWords}
+use Rattle.step_shown.specs.Shows.{shownOf}
+use Rattle.row_turns.specs.declared.Turn.{Turn}
+use Rattle.step_plan.specs.Steps.{toldOf, contextOf}
+use Rattle.step_plan.specs.declared.Holder.{Holder}
+use Rattle.step_plan.specs.declared.Call.{Call}
 use Rattle.step_plan.specs.declared.Told.{Told}
 use Rattle.step_plan.specs.declared.Told.the-variants.{Nothing, Tid, Fired}
 use Rattle.step_outcome.specs.declared.Answer.{Answer}
@@ -42,6 +48,14 @@ recordWords (Fired role peer tid) = roleNumber role ∷ peer ∷ tid ∷ 0 ∷ [
 -- the 32 words: "in order", the first indication before the second
 unfoldable pub answerWords : ℕ → Told → Shown → Shown → List ℕ
 answerWords sent told first second = headWords sent told first second ++ (shownWords first ++ (shownWords second ++ recordWords told))
+
+-- the words of a turn that sent this much
+unfoldable pub turnWords : ℕ → Turn → Holder → Call → List ℕ
+turnWords sent turn h c = answerWords sent (toldOf (c .tells) h) (shownOf (turn .first) (contextOf h c)) (shownOf (turn .second) (contextOf h c))
+
+-- a call that sent, told and showed nothing
+unfoldable pub idleWords : List ℕ
+idleWords = answerWords 0 Nothing Shown.Nothing Shown.Nothing
 
 -- the C interface: "The result is 0 where the call was accepted", else the refusal's number
 unfoldable pub answerNumber : Answer → ℕ

@@ -1,10 +1,13 @@
 // The 32 words that the C interface has for the answer of an engine call.
 ghost use mathlib.Core.Path.{_≡_};
-ghost use Prim.Native.Nat.{_≤_};
+ghost use Prim.Native.Nat.{_≤_, _<_};
 ghost use lib.ListN.{length};
+ghost use Rattle.base_layout.specs.Layout.{recordsBound};
 ghost use Rattle.base_lists.specs.Seq.{put};
-ghost use Rattle.c_answers.specs.Answers.{shownCount, toldTid, toldFired, headWords, recordWords, answerWords, answerNumber, answerAfter};
-use step_outcome::Answer;
+ghost use Rattle.c_answers.specs.Answers.{shownCount, toldTid, toldFired, headWords, recordWords, answerWords, turnWords};
+use row_turns::Turn;
+use step_plan::Call;
+use step_plan::Holder;
 use step_plan::Told;
 use step_shown::Shown;
 
@@ -64,30 +67,26 @@ fn store_answer(answer: &mut [u64], sent: usize, told: Told, first: Shown, secon
     ensures { λ _. ⌜ now (answer .exit) ≡ put (now (answer .entry)) 0 (answerWords sent told first second) ⌝ }
 {
     let head = head_words(sent, told, first, second);
-    let shown_first = step_shown::words_of(first);
-    let shown_second = step_shown::words_of(second);
-    let record = record_words(told);
     base_lists::store_words(&mut *answer, 0, &head);
+    let shown_first = step_shown::words_of(first);
     base_lists::store_words(&mut *answer, 4, &shown_first);
+    let shown_second = step_shown::words_of(second);
     base_lists::store_words(&mut *answer, 16, &shown_second);
+    let record = record_words(told);
     base_lists::store_words(answer, 28, &record);
 }
 
-// Gives an answer: its number, and its words where the call was accepted.
-pub fn give(answer: &mut [u64], a: Answer) -> u64
-    requires { ⌜ 32 ≤ length (now answer) ⌝ }
-    ensures { λ r. ⌜ (r ≡ answerNumber a) × (now (answer .exit) ≡ answerAfter a (now (answer .entry))) ⌝ }
+// Gives the words of a turn that sent this much.
+pub fn give(answer: &mut [u64], sent: usize, turn: Turn, h: Holder, c: Call)
+    requires { ⌜ (32 ≤ length (now answer)) × (h .place < recordsBound) ⌝ }
+    ensures { λ _. ⌜ now (answer .exit) ≡ put (now (answer .entry)) 0 (turnWords sent turn h c) ⌝ }
 {
-    match a {
-        Answer::Refused(r) => base_numbers::number(r),
-        Answer::Taken {
-            sent,
-            told,
-            first,
-            second,
-        } => {
-            store_answer(answer, sent, told, first, second);
-            0
-        }
-    }
+    let first = turn.first;
+    let second = turn.second;
+    let tells = c.tells;
+    let context = step_plan::context_of(h, c);
+    let told = step_plan::told_of(tells, h);
+    let shown_first = step_shown::shown_of(first, context);
+    let shown_second = step_shown::shown_of(second, context);
+    store_answer(answer, sent, told, shown_first, shown_second);
 }

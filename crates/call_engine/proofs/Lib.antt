@@ -1,1 +1,6 @@
 pub mod Carrying
+pub mod Idle
+pub mod Opened
+pub mod Taken
+pub mod Fired
+pub mod Received

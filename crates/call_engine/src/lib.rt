@@ -1,47 +1,38 @@
-// The engine's seven calls: each plans, then carries its plan out.
+// The engine's seven calls: each is judged, and an accepted one is carried out at once.
 ghost use mathlib.Core.Path.{_≡_};
 ghost use mathlib.Core.List.{[]};
+ghost use Prim.Native.Nat.{_+_, _*_, _≤_, _<_};
 ghost use lib.ListN.{length};
-ghost use Rattle.step_outcome.specs.Carry.{lent, done, outcome};
+ghost use Rattle.base_layout.specs.Layout.{headerSize, recordSize, timeBound, tidBound, recordsBound};
+ghost use Rattle.table_layout.specs.Table.{recordAt};
+ghost use Rattle.step_outcome.specs.Carry.{Ready, lent, carriedOut, outcome};
+ghost use Rattle.c_answers.specs.Handed.{called, handed};
 ghost use Rattle.call_primitive.specs.Primitives.{primitivePlan};
+ghost use Rattle.call_timer.specs.Timers.{firedStep};
 ghost use Rattle.call_plans.specs.Calls.{Call, promised};
 ghost use Rattle.call_engine.specs.Calls.{PlanReady};
 use call_primitive::Primitive;
+use call_receive::Arrives;
+use call_refusal::Judged;
+use call_refusal::Placed;
 use call_request::Request;
 use row_events::Event;
-use step_outcome::Answer;
-use step_plan::Plan;
-
-// A refusal changes nothing.
-fn carried(
-    table: &mut [u8],
-    store: &mut [u8],
-    output: &mut [u8],
-    given: &[u8],
-    exit: &[u8],
-    plan: Plan,
-) -> Answer
-    requires { ⌜ PlanReady (lent (now table) (now store) (now output) (now given) (now exit)) plan ⌝ }
-    ensures { λ r. ⌜ done r (now (table .exit)) (now (store .exit)) (now (output .exit)) ≡ outcome (lent (now (table .entry)) (now (store .entry)) (now (output .entry)) (now (given .entry)) (now (exit .entry))) plan ⌝ }
-{
-    match plan {
-        Plan::Refuse(r) => Answer::Refused(r),
-        Plan::Go(step) => step_outcome::carry_out(table, store, output, given, exit, step),
-    }
-}
+use table_finding::Found;
 
 // A user's request of a class with its data.
 pub fn request(
     table: &mut [u8],
     store: &mut [u8],
     output: &mut [u8],
+    answer: &mut [u64],
     time: u64,
     peer: u64,
     class: u64,
     user_ack: bool,
     user: &[u8],
-) -> Answer
-    ensures { λ r. ⌜ done r (now (table .exit)) (now (store .exit)) (now (output .exit)) ≡ promised (Call.Request time peer class «user_ack») (lent (now (table .entry)) (now (store .entry)) (now (output .entry)) (now (user .entry)) []) ⌝ }
+) -> u64
+    requires { ⌜ 32 ≤ length (now answer) ⌝ }
+    ensures { λ r. ⌜ called r (now (table .exit)) (now (store .exit)) (now (output .exit)) (now (answer .exit)) ≡ handed (promised (Call.Request time peer class «user_ack») (lent (now (table .entry)) (now (store .entry)) (now (output .entry)) (now (user .entry)) [])) (now (answer .entry)) ⌝ }
 {
     let none = [0u8; 1];
     let q = Request {
@@ -51,8 +42,15 @@ pub fn request(
         user_ack: user_ack,
         len: user.len(),
     };
-    let plan = call_request::request_plan(table, store.len(), output.len(), q);
-    carried(table, store, output, user, &none[..0], plan)
+    match call_request::request_place(table, store.len(), output.len(), q) {
+        Placed::Refuse(r) => base_numbers::number(r),
+        Placed::At(place) => {
+            let coming = call_request::request_opens(table, place, q);
+            let g = call_request::request_given(q);
+            let c = call_request::request_call(q);
+            step_carrying::carry(table, store, output, answer, user, &none[..0], coming, g, c)
+        }
+    }
 }
 
 // A primitive that names a record, with its data and exit information.
@@ -60,15 +58,24 @@ fn primitive(
     table: &mut [u8],
     store: &mut [u8],
     output: &mut [u8],
+    answer: &mut [u64],
     given: &[u8],
     exit: &[u8],
     p: Primitive,
-) -> Answer
+) -> u64
     requires { ⌜ PlanReady (lent (now table) (now store) (now output) (now given) (now exit)) (primitivePlan (now table) (length (now store)) (length (now output)) p) ⌝ }
-    ensures { λ r. ⌜ done r (now (table .exit)) (now (store .exit)) (now (output .exit)) ≡ outcome (lent (now (table .entry)) (now (store .entry)) (now (output .entry)) (now (given .entry)) (now (exit .entry))) (primitivePlan (now (table .entry)) (length (now (store .entry))) (length (now (output .entry))) p) ⌝ }
+    requires { ⌜ 32 ≤ length (now answer) ⌝ }
+    ensures { λ r. ⌜ called r (now (table .exit)) (now (store .exit)) (now (output .exit)) (now (answer .exit)) ≡ handed (outcome (lent (now (table .entry)) (now (store .entry)) (now (output .entry)) (now (given .entry)) (now (exit .entry))) (primitivePlan (now (table .entry)) (length (now (store .entry))) (length (now (output .entry))) p)) (now (answer .entry)) ⌝ }
 {
-    let plan = call_primitive::primitive_plan(table, store.len(), output.len(), p);
-    carried(table, store, output, given, exit, plan)
+    match call_primitive::primitive_place(table, store.len(), output.len(), p) {
+        Placed::Refuse(r) => base_numbers::number(r),
+        Placed::At(place) => {
+            let coming = call_primitive::primitive_row(table, place, p);
+            let g = call_primitive::primitive_given(p);
+            let c = call_primitive::primitive_call(p);
+            step_carrying::carry(table, store, output, answer, given, exit, coming, g, c)
+        }
+    }
 }
 
 // A user's answer with exit information.
@@ -76,13 +83,15 @@ pub fn answer(
     table: &mut [u8],
     store: &mut [u8],
     output: &mut [u8],
+    answer: &mut [u64],
     time: u64,
     role: u64,
     peer: u64,
     tid: u64,
     exit: &[u8],
-) -> Answer
-    ensures { λ r. ⌜ done r (now (table .exit)) (now (store .exit)) (now (output .exit)) ≡ promised (Call.Answer time role peer tid) (lent (now (table .entry)) (now (store .entry)) (now (output .entry)) [] (now (exit .entry))) ⌝ }
+) -> u64
+    requires { ⌜ 32 ≤ length (now answer) ⌝ }
+    ensures { λ r. ⌜ called r (now (table .exit)) (now (store .exit)) (now (output .exit)) (now (answer .exit)) ≡ handed (promised (Call.Answer time role peer tid) (lent (now (table .entry)) (now (store .entry)) (now (output .entry)) [] (now (exit .entry)))) (now (answer .entry)) ⌝ }
 {
     let none = [0u8; 1];
     let p = Primitive {
@@ -95,7 +104,7 @@ pub fn answer(
         len: 0,
         exit_len: exit.len(),
     };
-    primitive(table, store, output, &none[..0], exit, p)
+    primitive(table, store, output, answer, &none[..0], exit, p)
 }
 
 // A user's result with its data.
@@ -103,13 +112,15 @@ pub fn result(
     table: &mut [u8],
     store: &mut [u8],
     output: &mut [u8],
+    answer: &mut [u64],
     time: u64,
     role: u64,
     peer: u64,
     tid: u64,
     user: &[u8],
-) -> Answer
-    ensures { λ r. ⌜ done r (now (table .exit)) (now (store .exit)) (now (output .exit)) ≡ promised (Call.Result time role peer tid) (lent (now (table .entry)) (now (store .entry)) (now (output .entry)) (now (user .entry)) []) ⌝ }
+) -> u64
+    requires { ⌜ 32 ≤ length (now answer) ⌝ }
+    ensures { λ r. ⌜ called r (now (table .exit)) (now (store .exit)) (now (output .exit)) (now (answer .exit)) ≡ handed (promised (Call.Result time role peer tid) (lent (now (table .entry)) (now (store .entry)) (now (output .entry)) (now (user .entry)) [])) (now (answer .entry)) ⌝ }
 {
     let none = [0u8; 1];
     let p = Primitive {
@@ -122,7 +133,7 @@ pub fn result(
         len: user.len(),
         exit_len: 0,
     };
-    primitive(table, store, output, user, &none[..0], p)
+    primitive(table, store, output, answer, user, &none[..0], p)
 }
 
 // A user's abort with its reason.
@@ -130,13 +141,15 @@ pub fn abort(
     table: &mut [u8],
     store: &mut [u8],
     output: &mut [u8],
+    answer: &mut [u64],
     time: u64,
     role: u64,
     peer: u64,
     tid: u64,
     reason: u8,
-) -> Answer
-    ensures { λ r. ⌜ done r (now (table .exit)) (now (store .exit)) (now (output .exit)) ≡ promised (Call.Abort time role peer tid reason) (lent (now (table .entry)) (now (store .entry)) (now (output .entry)) [] []) ⌝ }
+) -> u64
+    requires { ⌜ 32 ≤ length (now answer) ⌝ }
+    ensures { λ r. ⌜ called r (now (table .exit)) (now (store .exit)) (now (output .exit)) (now (answer .exit)) ≡ handed (promised (Call.Abort time role peer tid reason) (lent (now (table .entry)) (now (store .entry)) (now (output .entry)) [] [])) (now (answer .entry)) ⌝ }
 {
     let none = [0u8; 1];
     let p = Primitive {
@@ -150,7 +163,7 @@ pub fn abort(
         exit_len: 0,
     };
     let nothing = &none[..0];
-    primitive(table, store, output, nothing, nothing, p)
+    primitive(table, store, output, answer, nothing, nothing, p)
 }
 
 // One received PDU.
@@ -158,41 +171,96 @@ pub fn receive(
     table: &mut [u8],
     store: &mut [u8],
     output: &mut [u8],
+    answer: &mut [u64],
     time: u64,
     peer: u64,
     octets: &[u8],
-) -> Answer
-    ensures { λ r. ⌜ done r (now (table .exit)) (now (store .exit)) (now (output .exit)) ≡ promised (Call.Receive time peer) (lent (now (table .entry)) (now (store .entry)) (now (output .entry)) (now (octets .entry)) []) ⌝ }
+) -> u64
+    requires { ⌜ 32 ≤ length (now answer) ⌝ }
+    ensures { λ r. ⌜ called r (now (table .exit)) (now (store .exit)) (now (output .exit)) (now (answer .exit)) ≡ handed (promised (Call.Receive time peer) (lent (now (table .entry)) (now (store .entry)) (now (output .entry)) (now (octets .entry)) [])) (now (answer .entry)) ⌝ }
 {
     let none = [0u8; 1];
-    let plan = call_receive::receive_plan(table, store.len(), output.len(), time, peer, octets);
-    carried(table, store, output, octets, &none[..0], plan)
+    match call_receive::receive_refusal(table, store.len(), output.len(), time, peer, octets.len()) {
+        Judged::Refuse(r) => base_numbers::number(r),
+        Judged::Accept => {
+            match call_receive::receive_turn(table, time, (peer % 256) as u8, octets) {
+                Arrives::Nobody => step_carrying::idle(table, answer, time),
+                Arrives::Turns(coming, g, c) => step_carrying::carry(
+                    table,
+                    store,
+                    output,
+                    answer,
+                    octets,
+                    &none[..0],
+                    coming,
+                    g,
+                    c,
+                ),
+            }
+        }
+    }
 }
 
-// The timer: fires one due record.
-pub fn timer(table: &mut [u8], store: &mut [u8], output: &mut [u8], time: u64) -> Answer
-    ensures { λ r. ⌜ done r (now (table .exit)) (now (store .exit)) (now (output .exit)) ≡ promised (Call.Timer time) (lent (now (table .entry)) (now (store .entry)) (now (output .entry)) [] []) ⌝ }
-{
-    let none = [0u8; 1];
-    let plan = call_timer::timer_plan(table, store.len(), output.len(), time);
-    let nothing = &none[..0];
-    carried(table, store, output, nothing, nothing, plan)
-}
-
-// Fires the record that is named, if it is due.
-pub fn fire(
+// Fires the live record at a place.
+fn fire(
     table: &mut [u8],
     store: &mut [u8],
     output: &mut [u8],
+    answer: &mut [u64],
+    place: usize,
+    time: u64,
+) -> u64
+    requires { ⌜ Ready (lent (now table) (now store) (now output) [] []) (firedStep (now table) place time) ⌝ }
+    requires { ⌜ (headerSize + place * recordSize + recordSize ≤ length (now table)) × (place < recordsBound) × (recordAt (now table) place .tid ≤ tidBound) × (time ≤ timeBound) ⌝ }
+    requires { ⌜ 32 ≤ length (now answer) ⌝ }
+    ensures { λ r. ⌜ called r (now (table .exit)) (now (store .exit)) (now (output .exit)) (now (answer .exit)) ≡ handed (carriedOut (lent (now (table .entry)) (now (store .entry)) (now (output .entry)) [] []) (firedStep (now (table .entry)) place time)) (now (answer .entry)) ⌝ }
+{
+    let none = [0u8; 1];
+    let coming = call_timer::fired_row(table, place);
+    let g = call_timer::fired_given(time);
+    let c = call_timer::fired_call();
+    let nothing = &none[..0];
+    step_carrying::carry(table, store, output, answer, nothing, nothing, coming, g, c)
+}
+
+// The timer: fires one due record.
+pub fn timer(
+    table: &mut [u8],
+    store: &mut [u8],
+    output: &mut [u8],
+    answer: &mut [u64],
+    time: u64,
+) -> u64
+    requires { ⌜ 32 ≤ length (now answer) ⌝ }
+    ensures { λ r. ⌜ called r (now (table .exit)) (now (store .exit)) (now (output .exit)) (now (answer .exit)) ≡ handed (promised (Call.Timer time) (lent (now (table .entry)) (now (store .entry)) (now (output .entry)) [] [])) (now (answer .entry)) ⌝ }
+{
+    match call_refusal::entry(table, store.len(), output.len(), time) {
+        Judged::Refuse(r) => base_numbers::number(r),
+        Judged::Accept => {
+            match table_finding::due(table, table_layout::records(table), time) {
+                Found::At(place) => fire(table, store, output, answer, place, time),
+                Found::Nothing => step_carrying::idle(table, answer, time),
+            }
+        }
+    }
+}
+
+// Fires the record named, which is due.
+pub fn fire_named(
+    table: &mut [u8],
+    store: &mut [u8],
+    output: &mut [u8],
+    answer: &mut [u64],
     time: u64,
     role: u64,
     peer: u64,
     tid: u64,
-) -> Answer
-    ensures { λ r. ⌜ done r (now (table .exit)) (now (store .exit)) (now (output .exit)) ≡ promised (Call.Fire time role peer tid) (lent (now (table .entry)) (now (store .entry)) (now (output .entry)) [] []) ⌝ }
+) -> u64
+    requires { ⌜ 32 ≤ length (now answer) ⌝ }
+    ensures { λ r. ⌜ called r (now (table .exit)) (now (store .exit)) (now (output .exit)) (now (answer .exit)) ≡ handed (promised (Call.Fire time role peer tid) (lent (now (table .entry)) (now (store .entry)) (now (output .entry)) [] [])) (now (answer .entry)) ⌝ }
 {
-    let none = [0u8; 1];
-    let plan = call_fire::fire_plan(table, store.len(), output.len(), time, role, peer, tid);
-    let nothing = &none[..0];
-    carried(table, store, output, nothing, nothing, plan)
+    match call_fire::fire_place(table, store.len(), output.len(), time, role, peer, tid) {
+        Placed::Refuse(r) => base_numbers::number(r),
+        Placed::At(place) => fire(table, store, output, answer, place, time),
+    }
 }

@@ -1,6 +1,6 @@
 -- What an accepted firing knows: its step, its table and its time, and that the record which it names is due. Assumes nothing.
 use Prim.Native.Nat.{ℕ}
-use mathlib.Core.Path.{_≡_, refl, sym, ap, _∙_}
+use mathlib.Core.Path.{_≡_, refl, ap, _∙_}
 use mathlib.Core.List.{List}
 use borrow.Author.Tests.{not-false}
 use Rattle.base_lists.proofs.StoresAndParts.{true-false}
@@ -21,7 +21,7 @@ use Rattle.call_primitive.specs.Primitives.{Named, foundFor}
 use Rattle.call_primitive.specs.declared.Primitive.{Primitive}
 use Rattle.call_primitive.proofs.Named.{found-named, named-live}
 use Rattle.call_timer.specs.Timers.{stepBy}
-use Rattle.call_fire.specs.Fires.{FoundLive, notDue, namedTests, fireTests, firePlan}
+use Rattle.call_fire.specs.Fires.{notDue, namedTests, fireTests, firePlan}
 
 -- neither 8 nor 9 is given: what was found is the record at a place, named and due
 pub record Ready (t : List ℕ) (p : Primitive) (found : Found) : Type 0 where
@@ -31,11 +31,6 @@ pub record Ready (t : List ℕ) (p : Primitive) (found : Found) : Type 0 where
   pub due : Due (p .time) (recordAt t place)
 
 module _ (t : List ℕ) (p : Primitive) where
-  -- what the name finds lives
-  pub found-live : (found : Found) → found ≡ foundFor t p → FoundLive t found
-  found-live (At i) e = named-live t p i (found-named t p i (sym e))
-  found-live Nothing e = tt
-
   pub ready : (found : Found) → foundFor t p ≡ found → lowest (namedTests t (p .time) found) ≡ Accept → Ready t p found
   unfolding notDue
   ready (At i) e h =

@@ -1,47 +1,35 @@
-// What firing the record that is named will do.
+// Which record a firing by name fires, and what it is refused for.
 ghost use mathlib.Core.Path.{_≡_};
-ghost use Prim.Native.Nat.{_≤_};
-ghost use Rattle.base_layout.specs.Layout.{timeBound};
-ghost use Rattle.table_well_formed.specs.WellFormed.{WellFormed};
-ghost use Rattle.call_fire.specs.Fires.{asFire, FoundLive, namedPlan, firePlan};
+ghost use Rattle.table_finding.specs.Finding.{Within};
+ghost use Rattle.call_fire.specs.Fires.{asFire, namedPlace, firePlace};
 use base_numbers::Refusal;
 use call_refusal::Judged;
-use step_plan::Plan;
+use call_refusal::Placed;
 use table_finding::Found;
 
-// With the named record found: number 8 or 9, or its step.
-fn named_plan(t: &[u8], found: Found, time: u64) -> Plan
-    requires { ⌜ WellFormed (now t) ⌝ }
-    requires { ⌜ FoundLive (now t) found ⌝ }
-    requires { ⌜ time ≤ timeBound ⌝ }
-    ensures { λ r. ⌜ r ≡ namedPlan (now (t .entry)) time found ⌝ }
+// With the named record found: number 8 or 9, or its place.
+fn named_place(t: &[u8], found: Found, time: u64) -> Placed
+    requires { ⌜ Within (now t) found ⌝ }
+    ensures { λ r. ⌜ r ≡ namedPlace (now (t .entry)) time found ⌝ }
 {
     match found {
         Found::At(i) => {
-            if !table_finding::is_due(t, i, time) {
-                return Plan::Refuse(Refusal::NotAllowed);
+            if table_finding::is_due(t, i, time) {
+                Placed::At(i)
+            } else {
+                Placed::Refuse(Refusal::NotAllowed)
             }
-            let step = call_timer::fired_step(t, i, time);
-            Plan::Go(step)
         }
-        Found::Nothing => Plan::Refuse(Refusal::NoRecord),
+        Found::Nothing => Placed::Refuse(Refusal::NoRecord),
     }
 }
 
-// Firing the record of this role, peer and TID, over a store and an output of these lengths.
-pub fn fire_plan(
-    t: &[u8],
-    store: usize,
-    output: usize,
-    time: u64,
-    role: u64,
-    peer: u64,
-    tid: u64,
-) -> Plan
-    ensures { λ r. ⌜ r ≡ firePlan (now (t .entry)) store output (asFire time role peer tid) ⌝ }
+// Firing the record of this role, peer and TID, over a store and an output of these lengths: a number, or its place.
+pub fn fire_place(t: &[u8], store: usize, output: usize, time: u64, role: u64, peer: u64, tid: u64) -> Placed
+    ensures { λ r. ⌜ r ≡ firePlace (now (t .entry)) store output (asFire time role peer tid) ⌝ }
 {
     match call_refusal::peer_entry(t, store, output, time, peer) {
-        Judged::Refuse(r) => Plan::Refuse(r),
-        Judged::Accept => named_plan(t, call_primitive::named_by(t, role, peer, tid), time),
+        Judged::Refuse(r) => Placed::Refuse(r),
+        Judged::Accept => named_place(t, call_primitive::named_by(t, role, peer, tid), time),
     }
 }

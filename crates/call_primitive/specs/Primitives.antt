@@ -20,7 +20,8 @@ use Rattle.row_events.specs.declared.Event.{Event}
 use Rattle.row_events.specs.declared.Row.{Row}
 use Rattle.row_events.specs.declared.Row.the-variants as Row
 use Rattle.row_turns.specs.declared.Given.{Given}
-use Rattle.call_refusal.specs.Judging.{Test, test, lowest, planBy, peerTests}
+use Rattle.call_refusal.specs.Judging.{Test, test, lowest, planBy, placedBy, peerTests}
+use Rattle.call_refusal.specs.declared.Placed.{Placed}
 use Rattle.step_plan.specs.Steps.{noPart}
 use Rattle.step_plan.specs.declared.Call.{Call}
 use Rattle.step_plan.specs.declared.Tells.the-variants.{Nothing}
@@ -28,6 +29,8 @@ use Rattle.step_plan.specs.declared.Step.{Step}
 use Rattle.step_plan.specs.declared.Plan.{Plan}
 use Rattle.step_opening.specs.Opens.{placeFor}
 use Rattle.step_live.specs.Turning.{rowAt, liveStep}
+use Rattle.step_carrying.specs.declared.Coming.{Coming}
+use Rattle.step_carrying.specs.declared.Coming.the-variants as Coming
 use Rattle.call_primitive.specs.declared.Primitive.{Primitive}
 
 -- ---- what the conditions of its refusals name; the conditions are in crates/law_refusals
@@ -112,11 +115,19 @@ primitiveCall p = record { message = record { start = 0; len = p .len }; info = 
 unfoldable pub primitiveStep : List ℕ → ℕ → Primitive → Step
 primitiveStep t place p = liveStep t place (p .event) (primitiveGiven p) (primitiveCall p)
 
--- with the named record found
-unfoldable pub foundPlan : List ℕ → Found → Primitive → Plan
-foundPlan t found p = planBy (lowest (foundTests t found p)) (primitiveStep t (placeFor found) p)
-
 -- the whole plan
 unfoldable pub primitivePlan : List ℕ → ℕ → ℕ → Primitive → Plan
 primitivePlan t store output p =
     planBy (lowest (primitiveTests t store output p)) (primitiveStep t (placeFor (foundFor t p)) p)
+
+-- ---- what the code takes apart: the place of its record, and the row
+
+-- with the named record found
+unfoldable pub foundPlace : List ℕ → Found → Primitive → Placed
+foundPlace t found p = placedBy (lowest (foundTests t found p)) (placeFor found)
+
+unfoldable pub primitivePlace : List ℕ → ℕ → ℕ → Primitive → Placed
+primitivePlace t store output p = placedBy (lowest (primitiveTests t store output p)) (placeFor (foundFor t p))
+
+unfoldable pub primitiveRow : List ℕ → ℕ → Primitive → Coming
+primitiveRow t place p = Coming.Live place (rowAt t place (p .event))

@@ -1,20 +1,21 @@
-// What a user's answer, result or abort will do: the three primitives that name a record.
+// What a user's answer, result or abort is refused for, and what an accepted one brings: the three primitives that name a record.
 ghost use mathlib.Core.Path.{_≡_};
-ghost use Prim.Native.Nat.{_≤_};
-ghost use Rattle.base_layout.specs.Layout.{timeBound, exitBound, cellSize};
+ghost use Prim.Native.Nat.{_+_, _*_, _≤_};
+ghost use lib.ListN.{length};
+ghost use Rattle.base_layout.specs.Layout.{headerSize, recordSize, exitBound, cellSize};
 ghost use Rattle.table_finding.specs.Finding.{Within};
-ghost use Rattle.call_primitive.specs.Primitives.{Named, namedBy, isResponder, exitRefused, tooMuch, refusesRow, notAllowed, foundTests, primitiveStep, foundFor, foundPlan, primitivePlan};
+ghost use Rattle.call_primitive.specs.Primitives.{namedBy, isResponder, exitRefused, tooMuch, refusesRow, notAllowed, foundTests, foundPlace, primitivePlace, primitiveRow, primitiveGiven, primitiveCall};
 ghost use Rattle.table_well_formed.specs.WellFormed.{WellFormed};
 ghost use Rattle.call_refusal.specs.Judging.{lowest};
 use base_numbers::Refusal;
 use call_refusal::Judged;
+use call_refusal::Placed;
 use row_events::Event;
 use row_events::Row;
 use row_turns::Given;
+use step_carrying::Coming;
 use step_plan::Call;
 use step_plan::Part;
-use step_plan::Plan;
-use step_plan::Step;
 use step_plan::Tells;
 use table_finding::Found;
 use table_record::Role;
@@ -129,23 +130,55 @@ fn found_refusal(t: &[u8], found: Found, p: Primitive) -> Judged
     Judged::Accept
 }
 
-// The step of an accepted primitive: of the record at this place.
-fn primitive_step(t: &[u8], place: usize, p: Primitive) -> Step
-    requires { ⌜ WellFormed (now t) ⌝ }
-    requires { ⌜ Named (now t) p place ⌝ }
-    requires { ⌜ (p .time ≤ timeBound) × (p .len ≤ cellSize) × (p .«exit_len» ≤ exitBound) ⌝ }
-    ensures { λ r. ⌜ r ≡ primitiveStep (now (t .entry)) place p ⌝ }
+// With the named record found: a number, or its place.
+fn with_found(t: &[u8], found: Found, p: Primitive) -> Placed
+    requires { ⌜ Within (now t) found ⌝ }
+    ensures { λ r. ⌜ r ≡ foundPlace (now (t .entry)) found p ⌝ }
+{
+    match found_refusal(t, found, p) {
+        Judged::Refuse(r) => Placed::Refuse(r),
+        Judged::Accept => Placed::At(step_opening::place_for(found)),
+    }
+}
+
+// A primitive over a store and an output of these lengths: a number, or the place of its record.
+pub fn primitive_place(t: &[u8], store: usize, output: usize, p: Primitive) -> Placed
+    ensures { λ r. ⌜ r ≡ primitivePlace (now (t .entry)) store output p ⌝ }
+{
+    match call_refusal::peer_entry(t, store, output, p.time, p.peer) {
+        Judged::Refuse(r) => Placed::Refuse(r),
+        Judged::Accept => with_found(t, named_by(t, p.role, p.peer, p.tid), p),
+    }
+}
+
+// The row that an accepted primitive meets in the record at this place.
+pub fn primitive_row(t: &[u8], place: usize, p: Primitive) -> Coming
+    requires { ⌜ headerSize + place * recordSize + recordSize ≤ length (now t) ⌝ }
+    ensures { λ r. ⌜ r ≡ primitiveRow (now (t .entry)) place p ⌝ }
 {
     let event = p.event;
-    let none = step_plan::no_part();
-    let g = Given {
+    let row = step_live::row_at(t, place, event);
+    Coming::Live(place, row)
+}
+
+pub fn primitive_given(p: Primitive) -> Given
+    requires { ⌜ (p .len ≤ cellSize) × (p .«exit_len» ≤ exitBound) ⌝ }
+    ensures { λ r. ⌜ r ≡ primitiveGiven p ⌝ }
+{
+    Given {
         time: p.time,
         kind: 0,
         reason: p.reason,
         len: p.len as u32,
         exit_len: p.exit_len as u8,
-    };
-    let c = Call {
+    }
+}
+
+pub fn primitive_call(p: Primitive) -> Call
+    ensures { λ r. ⌜ r ≡ primitiveCall p ⌝ }
+{
+    let none = step_plan::no_part();
+    Call {
         message: Part {
             start: 0,
             len: p.len,
@@ -153,33 +186,5 @@ fn primitive_step(t: &[u8], place: usize, p: Primitive) -> Step
         info: none,
         user: none,
         tells: Tells::Nothing,
-    };
-    step_live::live_step(t, place, event, g, c)
-}
-
-// With the named record found: a number, or the step.
-fn with_found(t: &[u8], found: Found, p: Primitive) -> Plan
-    requires { ⌜ WellFormed (now t) ⌝ }
-    requires { ⌜ found ≡ foundFor (now t) p ⌝ }
-    requires { ⌜ p .time ≤ timeBound ⌝ }
-    ensures { λ r. ⌜ r ≡ foundPlan (now (t .entry)) found p ⌝ }
-{
-    match found_refusal(t, found, p) {
-        Judged::Refuse(r) => Plan::Refuse(r),
-        Judged::Accept => {
-            let place = step_opening::place_for(found);
-            let step = primitive_step(t, place, p);
-            Plan::Go(step)
-        }
-    }
-}
-
-// A primitive over a store and an output of these lengths.
-pub fn primitive_plan(t: &[u8], store: usize, output: usize, p: Primitive) -> Plan
-    ensures { λ r. ⌜ r ≡ primitivePlan (now (t .entry)) store output p ⌝ }
-{
-    match call_refusal::peer_entry(t, store, output, p.time, p.peer) {
-        Judged::Refuse(r) => Plan::Refuse(r),
-        Judged::Accept => with_found(t, named_by(t, p.role, p.peer, p.tid), p),
     }
 }

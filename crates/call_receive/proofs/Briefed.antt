@@ -1,4 +1,4 @@
--- What the engine takes of a PDU is all that its step depends on. Assumes nothing.
+-- What the engine takes of a PDU is all that its turn depends on. Assumes nothing.
 use Prim.Native.Nat.{ℕ}
 use mathlib.Core.Path.{_≡_, refl}
 use mathlib.Core.List.{List}
@@ -9,13 +9,13 @@ use Rattle.codec_pdu.specs.declared.Brief.{Brief}
 use Rattle.codec_pdu.specs.declared.Pdu.{Pdu}
 use Rattle.table_record.specs.declared.Role.{Role}
 use Rattle.step_arrivals.specs.Arrivals.{arrivedOf}
-use Rattle.call_receive.specs.Receives.{takenGiven, takenCall, userPart, takenStep, keptPart, openedGiven, openedCall, openedStep, arrivalOpening, unmatchedStep}
+use Rattle.call_receive.specs.Receives.{takenGiven, takenCall, userPart, takenTurn, keptPart, openedGiven, openedCall, openedTurn, arrivalOpening, unmatchedTurn}
 
 module _ (t : List ℕ) (time : ℕ) (b : Brief) (p : Pdu) (e : b ≡ briefOf p) where
-  pub taken-same : (place : ℕ) → takenStep t place time (asPdu b) ≡ takenStep t place time p
-  unfolding takenStep takenGiven takenCall userPart asPdu briefOf infoOf infoFrom
+  pub taken-same : (place : ℕ) → takenTurn t place time (asPdu b) ≡ takenTurn t place time p
+  unfolding takenTurn takenGiven takenCall userPart asPdu briefOf infoOf infoFrom
   taken-same place = rw e
 
-  pub unmatched-same : (role : Role) (peer tid : ℕ) (s : List ℕ) → unmatchedStep t role peer tid time s (asPdu b) ≡ unmatchedStep t role peer tid time s p
-  unfolding unmatchedStep openedStep openedGiven openedCall keptPart userPart arrivalOpening arrivedOf asPdu briefOf
+  pub unmatched-same : (role : Role) (peer tid : ℕ) (s : List ℕ) → unmatchedTurn t role peer tid time s (asPdu b) ≡ unmatchedTurn t role peer tid time s p
+  unfolding unmatchedTurn openedTurn openedGiven openedCall keptPart userPart arrivalOpening arrivedOf asPdu briefOf
   unmatched-same role peer tid s = rw e

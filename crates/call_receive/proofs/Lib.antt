@@ -2,6 +2,6 @@ pub mod Accepted
 pub mod Answered
 pub mod Briefed
 pub mod Dispatch
-pub mod Holders
 pub mod KeptData
 pub mod Ways
+pub mod Turns

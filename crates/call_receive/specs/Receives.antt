@@ -36,7 +36,10 @@ use Rattle.step_plan.specs.declared.Tells.the-variants.{Nothing}
 use Rattle.step_plan.specs.declared.Step.{Step}
 use Rattle.step_plan.specs.declared.Plan.{Plan}
 use Rattle.step_opening.specs.Opens.{placeFor, openingStep}
-use Rattle.step_live.specs.Turning.{liveStep}
+use Rattle.step_live.specs.Turning.{rowAt, liveStep}
+use Rattle.step_carrying.specs.declared.Coming.the-variants as Coming
+use Rattle.call_receive.specs.declared.Arrives.{Arrives}
+use Rattle.call_receive.specs.declared.Arrives.the-variants as Arrives
 
 -- 11: "datagram or PDU length outside 1 to 1,500"
 abbrev pub wrongLength : ℕ → Bool
@@ -125,3 +128,30 @@ receiveStep t time peer s = stepOfName (nameOf s) t time peer s
 
 unfoldable pub receivePlan : List ℕ → ℕ → ℕ → ℕ → ℕ → List ℕ → Plan
 receivePlan t store output time peer s = planBy (lowest (receiveTests t store output time peer (length s))) (receiveStep t time (peer % peers) s)
+
+-- ---- what the code takes apart: the turn that a PDU brings
+
+-- to a live record, or as an opening
+unfoldable pub takenTurn : List ℕ → ℕ → ℕ → Pdu → Arrives
+takenTurn t place time p = Arrives.Turns (Coming.Live place (rowAt t place (eventOf (p .kind)))) (takenGiven time p) (takenCall p)
+
+unfoldable pub openedTurn : Opening → Holder → ℕ → Pdu → Arrives
+openedTurn opening h time p = Arrives.Turns (Coming.Opens opening h Unchanged) (openedGiven time p) (openedCall p)
+
+unfoldable pub unmatchedTurn : List ℕ → Role → ℕ → ℕ → ℕ → List ℕ → Pdu → Arrives
+unmatchedTurn t role peer tid time s p =
+    openedTurn (arrivalOpening t peer tid s p) (arriverOf (placeFor (freeOf t (count t))) role peer tid (p .kind)) time p
+
+abbrev pub turnBy : Found → List ℕ → Role → ℕ → ℕ → ℕ → List ℕ → Arrives
+turnBy (Found.At i) t role peer tid time s = takenTurn t i time (pduOf s)
+turnBy Found.Nothing t role peer tid time s = unmatchedTurn t role peer tid time s (pduOf s)
+
+unfoldable pub namingTurn : List ℕ → Role → ℕ → ℕ → ℕ → List ℕ → Arrives
+namingTurn t role peer tid time s = turnBy (namedOf t (count t) role peer tid) t role peer tid time s
+
+abbrev pub turnOfName : Name → List ℕ → ℕ → ℕ → List ℕ → Arrives
+turnOfName Nobody t time peer s = Arrives.Nobody
+turnOfName (Of role tid) t time peer s = namingTurn t role peer tid time s
+
+unfoldable pub receiveTurn : List ℕ → ℕ → ℕ → List ℕ → Arrives
+receiveTurn t time peer s = turnOfName (nameOf s) t time peer s

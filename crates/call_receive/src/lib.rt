@@ -1,13 +1,12 @@
-// What a received PDU will do.
+// What a received PDU is refused for, and what an accepted one brings.
 ghost use mathlib.Core.Path.{_≡_};
-ghost use Prim.Native.Nat.{_≤_, _<_};
+ghost use Prim.Native.Nat.{_+_, _*_, _≤_};
 ghost use lib.ListN.{length};
-ghost use Rattle.base_layout.specs.Layout.{timeBound, tidBound, recordsBound};
+ghost use Rattle.base_layout.specs.Layout.{headerSize, recordSize};
 ghost use Rattle.codec_pdu.specs.Brief.{asPdu};
-ghost use Rattle.table_layout.specs.Table.{count, recordAt};
 ghost use Rattle.table_well_formed.specs.WellFormed.{WellFormed};
 ghost use Rattle.call_refusal.specs.Judging.{lowest};
-ghost use Rattle.call_receive.specs.Receives.{wrongLength, receiveTests, keptPart, takenStep, isValid, arriverOf, openedStep, unmatchedStep, namingStep, receiveStep, receivePlan};
+ghost use Rattle.call_receive.specs.Receives.{wrongLength, receiveTests, keptPart, isValid, arriverOf, takenTurn, openedTurn, unmatchedTurn, namingTurn, receiveTurn};
 use base_numbers::Refusal;
 use call_refusal::Judged;
 use codec_pdu::Brief;
@@ -15,16 +14,21 @@ use codec_pdu::Kind;
 use row_events::Opening;
 use row_turns::Given;
 use step_arrivals::Name;
+use step_carrying::Coming;
 use step_commit::TidChange;
 use step_plan::Call;
 use step_plan::Holder;
 use step_plan::Part;
-use step_plan::Plan;
-use step_plan::Step;
 use step_plan::Tells;
 use table_finding::Found;
 use table_record::Role;
 use table_tids::Test;
+
+// What an accepted PDU brings: to nobody nothing but its time, else a turn.
+pub enum Arrives {
+    Nobody,
+    Turns(Coming, Given, Call),
+}
 
 // Number 11.
 fn wrong_length(len: usize) -> bool
@@ -38,7 +42,7 @@ fn wrong_length(len: usize) -> bool
 }
 
 // The lowest number that applies.
-fn receive_refusal(
+pub fn receive_refusal(
     t: &[u8],
     store: usize,
     output: usize,
@@ -61,16 +65,16 @@ fn receive_refusal(
 }
 
 // A PDU that comes to the live record at a place.
-fn taken(t: &[u8], place: usize, time: u64, b: Brief) -> Step
-    requires { ⌜ WellFormed (now t) ⌝ }
-    requires { ⌜ (place < count (now t)) × (recordAt (now t) place .tid ≤ tidBound) × (time ≤ timeBound) ⌝ }
-    ensures { λ r. ⌜ r ≡ takenStep (now (t .entry)) place time (asPdu b) ⌝ }
+fn taken(t: &[u8], place: usize, time: u64, b: Brief) -> Arrives
+    requires { ⌜ headerSize + place * recordSize + recordSize ≤ length (now t) ⌝ }
+    ensures { λ r. ⌜ r ≡ takenTurn (now (t .entry)) place time (asPdu b) ⌝ }
 {
     let kind = b.kind;
     let event = step_arrivals::event_of(kind);
     let cause = step_arrivals::abort_of(kind);
     let info = b.info;
     let none = step_plan::no_part();
+    let row = step_live::row_at(t, place, event);
     let g = Given {
         time: time,
         kind: cause.abort_type,
@@ -90,7 +94,7 @@ fn taken(t: &[u8], place: usize, time: u64, b: Brief) -> Step
         },
         tells: Tells::Nothing,
     };
-    step_live::live_step(t, place, event, g, c)
+    Arrives::Turns(Coming::Live(place, row), g, c)
 }
 
 // The data of an Invoke that may be kept: one of more than 1,024 octets is kept nowhere.
@@ -131,11 +135,9 @@ fn arriver(place: usize, role: Role, peer: u8, tid: u16, kind: Kind) -> Holder
     }
 }
 
-// The step of an opening for this PDU.
-fn opened_by(t: &[u8], opening: Opening, h: Holder, time: u64, b: Brief) -> Step
-    requires { ⌜ WellFormed (now t) ⌝ }
-    requires { ⌜ (h .place < recordsBound) × (h .tid ≤ tidBound) × (time ≤ timeBound) ⌝ }
-    ensures { λ r. ⌜ r ≡ openedStep (now (t .entry)) opening h time (asPdu b) ⌝ }
+// An opening for this PDU.
+fn opened_by(opening: Opening, h: Holder, time: u64, b: Brief) -> Arrives
+    ensures { λ r. ⌜ r ≡ openedTurn opening h time (asPdu b) ⌝ }
 {
     let message = kept_part(b);
     let none = step_plan::no_part();
@@ -155,14 +157,13 @@ fn opened_by(t: &[u8], opening: Opening, h: Holder, time: u64, b: Brief) -> Step
         },
         tells: Tells::Nothing,
     };
-    step_opening::opening_step(t, opening, h, g, TidChange::Unchanged, c)
+    Arrives::Turns(Coming::Opens(opening, h, TidChange::Unchanged), g, c)
 }
 
 // A PDU without a live record.
-fn unmatched(t: &[u8], role: Role, peer: u8, tid: u16, time: u64, s: &[u8], b: Brief) -> Step
+fn unmatched(t: &[u8], role: Role, peer: u8, tid: u16, time: u64, s: &[u8], b: Brief) -> Arrives
     requires { ⌜ WellFormed (now t) ⌝ }
-    requires { ⌜ (tid ≤ tidBound) × (time ≤ timeBound) ⌝ }
-    ensures { λ r. ⌜ r ≡ unmatchedStep (now (t .entry)) role peer tid time (now (s .entry)) (asPdu b) ⌝ }
+    ensures { λ r. ⌜ r ≡ unmatchedTurn (now (t .entry)) role peer tid time (now (s .entry)) (asPdu b) ⌝ }
 {
     let kind = b.kind;
     let free = table_finding::free(t, table_layout::records(t));
@@ -171,14 +172,13 @@ fn unmatched(t: &[u8], role: Role, peer: u8, tid: u16, time: u64, s: &[u8], b: B
     let valid = is_valid(table_tids::tid_test(cached, tid));
     let opening = row_choice::opening_of(step_arrivals::arrived(s, b, full, valid));
     let h = arriver(step_opening::place_for(free), role, peer, tid, kind);
-    opened_by(t, opening, h, time, b)
+    opened_by(opening, h, time, b)
 }
 
 // A PDU that names this record.
-fn naming(t: &[u8], role: Role, peer: u8, tid: u16, time: u64, s: &[u8]) -> Step
+fn naming(t: &[u8], role: Role, peer: u8, tid: u16, time: u64, s: &[u8]) -> Arrives
     requires { ⌜ WellFormed (now t) ⌝ }
-    requires { ⌜ (tid ≤ tidBound) × (time ≤ timeBound) ⌝ }
-    ensures { λ r. ⌜ r ≡ namingStep (now (t .entry)) role peer tid time (now (s .entry)) ⌝ }
+    ensures { λ r. ⌜ r ≡ namingTurn (now (t .entry)) role peer tid time (now (s .entry)) ⌝ }
 {
     let b = codec_reading::brief(s);
     match table_finding::named(t, table_layout::records(t), role, peer as u64, tid as u64) {
@@ -187,27 +187,13 @@ fn naming(t: &[u8], role: Role, peer: u8, tid: u16, time: u64, s: &[u8]) -> Step
     }
 }
 
-// The step of an accepted PDU.
-fn receive_step(t: &[u8], time: u64, peer: u8, s: &[u8]) -> Step
+// What an accepted PDU brings.
+pub fn receive_turn(t: &[u8], time: u64, peer: u8, s: &[u8]) -> Arrives
     requires { ⌜ WellFormed (now t) ⌝ }
-    requires { ⌜ time ≤ timeBound ⌝ }
-    ensures { λ r. ⌜ r ≡ receiveStep (now (t .entry)) time peer (now (s .entry)) ⌝ }
+    ensures { λ r. ⌜ r ≡ receiveTurn (now (t .entry)) time peer (now (s .entry)) ⌝ }
 {
     match step_arrivals::named_by(s) {
-        Name::Nobody => step_plan::idle(time),
+        Name::Nobody => Arrives::Nobody,
         Name::Of(role, tid) => naming(t, role, peer, tid, time, s),
-    }
-}
-
-// A PDU from a peer, over a store and an output of these lengths.
-pub fn receive_plan(t: &[u8], store: usize, output: usize, time: u64, peer: u64, s: &[u8]) -> Plan
-    ensures { λ r. ⌜ r ≡ receivePlan (now (t .entry)) store output time peer (now (s .entry)) ⌝ }
-{
-    match receive_refusal(t, store, output, time, peer, s.len()) {
-        Judged::Refuse(r) => Plan::Refuse(r),
-        Judged::Accept => {
-            let step = receive_step(t, time, (peer % 256) as u8, s);
-            Plan::Go(step)
-        }
     }
 }

@@ -16,6 +16,8 @@ use Rattle.step_plan.specs.declared.Plan.{Plan}
 use Rattle.step_plan.specs.declared.Plan.the-variants as Plan
 use Rattle.call_refusal.specs.declared.Judged.{Judged}
 use Rattle.call_refusal.specs.declared.Judged.the-variants.{Accept, Refuse}
+use Rattle.call_refusal.specs.declared.Placed.{Placed}
+use Rattle.call_refusal.specs.declared.Placed.the-variants as Placed
 
 -- a refusal and the test of its condition
 pub record Test : Type 0 where
@@ -34,6 +36,11 @@ lowest (t ∷ ts) = pick (t .holds) (Refuse (t .number)) (lowest ts)
 abbrev pub planBy : Judged → Step → Plan
 planBy Accept step = Plan.Go step
 planBy (Refuse r) step = Plan.Refuse r
+
+-- the place that a judgement allows
+abbrev pub placedBy : Judged → ℕ → Placed
+placedBy Accept place = Placed.At place
+placedBy (Refuse r) place = Placed.Refuse r
 
 -- a refusal and its condition, as document 01's table says it
 pub record Condition : Type 1 where

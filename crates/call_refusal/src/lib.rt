@@ -12,6 +12,12 @@ pub enum Judged {
     Refuse(Refusal),
 }
 
+// Where an accepted call finds or opens its record.
+pub enum Placed {
+    At(usize),
+    Refuse(Refusal),
+}
+
 // Number 2: the time is below the last accepted one or over the bound.
 fn late(t: &[u8], time: u64) -> bool
     requires { ⌜ headerSize ≤ length (now t) ⌝ }

@@ -23,15 +23,18 @@ use Rattle.table_finding.specs.declared.Found.the-variants.{At, Nothing}
 use Rattle.table_finding.proofs.Searches.{free-found}
 use Rattle.call_refusal.specs.Judging.{Test, lowest}
 use Rattle.call_refusal.specs.declared.Judged.the-variants.{Accept}
+use Rattle.call_refusal.specs.declared.Placed.the-variants as Placed
 use Rattle.call_refusal.proofs.Fits.{NoneHolds, accepted}
+use Rattle.call_refusal.proofs.Placing.{place-at}
 use Rattle.call_refusal.proofs.Going.{goes, Entered, entered}
 use Rattle.step_plan.specs.declared.Step.{Step}
 use Rattle.step_plan.specs.declared.Plan.the-variants as Plan
 use Rattle.step_opening.specs.Opens.{placeFor}
 use Rattle.law_places.proofs.Places.{place-small, free-place}
-use Rattle.call_request.specs.Requests.{UsesGenTid, entryTests, fullTests, requestTests, noneFree, requestStep, requestPlan}
+use Rattle.call_request.specs.Requests.{UsesGenTid, entryTests, fullTests, requestTests, noneFree, requestStep, requestPlan, requestPlace}
 use Rattle.call_request.specs.declared.Request.{Request}
 use Rattle.call_request.proofs.InUse.{tells-in-use}
+use Rattle.call_request.proofs.Staged.{plan-goes}
 
 -- none of the numbers 1 to 6 applies
 pub record Admitted (t : List ℕ) (store output : ℕ) (q : Request) : Type 0 where
@@ -95,10 +98,6 @@ module _ (t : List ℕ) (store output : ℕ) (q : Request) where
     pub formed : WellFormed t
     formed = a .enters .fitting .formed
 
-    -- a step over the record that was found has its place, its time and its data in range
-    pub ready : (f : Found) (k : ℕ) → k ≡ count t → f ≡ freeOf t k → WellFormed t × ((placeFor f < recordsBound) × ((q .time ≤ timeBound) × (q .len ≤ cellSize)))
-    ready f k e g = (formed, (rw (g, e) (place-small t formed (placeOf t) (free-place t formed)), (a .enters .bounded, a .data-fits)))
-
     -- a peer and a class in range are their octets
     pub peer-octet : q .peer % peers ≡ q .peer
     peer-octet = omega (arith, a .peer-known)
@@ -110,3 +109,11 @@ module _ (t : List ℕ) (store output : ℕ) (q : Request) where
     pub name-unused : (r : Record) → roleOf (r .state) ≡ Initiator → r .tid ≡ genTidOf t → (j : ℕ) → j < count t → Live (recordAt t j) → SameName r (recordAt t j) → ⊥
     name-unused r role tid j inside live same =
         a .tid-unused j (record { inside = inside; live = live; initiator = sym (same .role) ∙ role; tid = sym (same .tid) ∙ tid })
+
+  -- the place of an accepted request, its time and its data are in range
+  pub ready-at : (place : ℕ) → Placed.At place ≡ requestPlace t store output q → WellFormed t × ((place < recordsBound) × ((q .time ≤ timeBound) × (q .len ≤ cellSize)))
+  unfolding requestPlace
+  ready-at place e =
+      let a = request-accepted (requestStep t place q) (plan-goes t store output q place e) .admits in
+      let w = a .enters .fitting .formed in
+      (w, (rw (place-at (lowest (requestTests t store output q)) (placeOf t) place e) (place-small t w (placeOf t) (free-place t w)), (a .enters .bounded, a .data-fits)))

@@ -1,4 +1,5 @@
 pub mod Passed
 pub mod InUse
-pub mod Accepted
 pub mod Staged
+pub mod Accepted
+pub mod Opening

@@ -17,7 +17,8 @@ use Rattle.row_choice.specs.Rows.{requestedOf}
 use Rattle.table_tids.specs.Tids.{nextTid}
 use Rattle.row_turns.specs.declared.Given.{Given}
 use Rattle.step_commit.specs.declared.TidChange.the-variants.{Set}
-use Rattle.call_refusal.specs.Judging.{Test, test, lowest, planBy, peerTests}
+use Rattle.call_refusal.specs.Judging.{Test, test, lowest, planBy, placedBy, peerTests}
+use Rattle.call_refusal.specs.declared.Placed.{Placed}
 use Rattle.step_plan.specs.Steps.{noPart}
 use Rattle.step_plan.specs.declared.Holder.{Holder}
 use Rattle.step_plan.specs.declared.Call.{Call}
@@ -25,6 +26,8 @@ use Rattle.step_plan.specs.declared.Tells.the-variants.{Tid}
 use Rattle.step_plan.specs.declared.Step.{Step}
 use Rattle.step_plan.specs.declared.Plan.{Plan}
 use Rattle.step_opening.specs.Opens.{placeFor, openingStep}
+use Rattle.step_carrying.specs.declared.Coming.{Coming}
+use Rattle.step_carrying.specs.declared.Coming.the-variants.{Opens}
 use Rattle.call_request.specs.declared.Request.{Request}
 
 -- 6: "GenTID is the TID of a live initiator record, any peer"
@@ -86,11 +89,19 @@ unfoldable pub requestStep : List ℕ → ℕ → Request → Step
 requestStep t place q =
     openingStep t (requestedOf (q .class % 256)) (requester t place q) (requestGiven q) (Set (nextTid (genTidOf t))) (requestCall q)
 
--- with the lowest free record found
-unfoldable pub freePlan : List ℕ → Found → Request → Plan
-freePlan t free q = planBy (lowest (fullTests free q)) (requestStep t (placeFor free) q)
-
 -- the whole plan: "takes the lowest free record when it opens one"
 unfoldable pub requestPlan : List ℕ → ℕ → ℕ → Request → Plan
 requestPlan t store output q =
     planBy (lowest (requestTests t store output q)) (requestStep t (placeFor (freeOf t (count t))) q)
+
+-- ---- what the code takes apart: the place of its record, and the opening
+
+-- with the lowest free record found
+unfoldable pub freePlace : Found → Request → Placed
+freePlace free q = placedBy (lowest (fullTests free q)) (placeFor free)
+
+unfoldable pub requestPlace : List ℕ → ℕ → ℕ → Request → Placed
+requestPlace t store output q = placedBy (lowest (requestTests t store output q)) (placeFor (freeOf t (count t)))
+
+unfoldable pub requestOpens : List ℕ → ℕ → Request → Coming
+requestOpens t place q = Opens (requestedOf (q .class % 256)) (requester t place q) (Set (nextTid (genTidOf t)))

@@ -1,20 +1,20 @@
-// What a request will do.
+// What a request is refused for, and what an accepted one brings.
 ghost use mathlib.Core.Path.{_≡_};
-ghost use Prim.Native.Nat.{_≤_, _<_};
-ghost use Rattle.base_layout.specs.Layout.{timeBound, recordsBound, cellSize};
+ghost use Prim.Native.Nat.{_≤_};
+ghost use lib.ListN.{length};
+ghost use Rattle.base_layout.specs.Layout.{headerSize, cellSize};
 ghost use Rattle.table_well_formed.specs.WellFormed.{WellFormed};
 ghost use Rattle.call_refusal.specs.Judging.{lowest};
-ghost use Rattle.step_opening.specs.Opens.{placeFor};
-ghost use Rattle.call_request.specs.Requests.{ownTests, noneFree, entryTests, requestStep, freePlan, requestPlan};
+ghost use Rattle.call_request.specs.Requests.{ownTests, noneFree, entryTests, freePlace, requestPlace, requestOpens, requestGiven, requestCall};
 use base_numbers::Refusal;
 use call_refusal::Judged;
+use call_refusal::Placed;
 use row_turns::Given;
+use step_carrying::Coming;
 use step_commit::TidChange;
 use step_plan::Call;
 use step_plan::Holder;
 use step_plan::Part;
-use step_plan::Plan;
-use step_plan::Step;
 use step_plan::Tells;
 use table_finding::Found;
 use table_record::Role;
@@ -67,16 +67,34 @@ fn none_free(free: Found, class: u64) -> bool
     }
 }
 
-// The step of an accepted request whose record is opened at this place.
-fn request_step(t: &[u8], place: usize, q: Request) -> Step
-    requires { ⌜ WellFormed (now t) ⌝ }
-    requires { ⌜ place < recordsBound ⌝ }
-    requires { ⌜ (q .time ≤ timeBound) × (q .len ≤ cellSize) ⌝ }
-    ensures { λ r. ⌜ r ≡ requestStep (now (t .entry)) place q ⌝ }
+// With the lowest free record found: number 7, or its place.
+fn with_place(free: Found, q: Request) -> Placed
+    ensures { λ r. ⌜ r ≡ freePlace free q ⌝ }
+{
+    if none_free(free, q.class) {
+        return Placed::Refuse(Refusal::TableFull);
+    }
+    let place = step_opening::place_for(free);
+    Placed::At(place)
+}
+
+// A request over a store and an output of these lengths: a number, or the place of its record.
+pub fn request_place(t: &[u8], store: usize, output: usize, q: Request) -> Placed
+    ensures { λ r. ⌜ r ≡ requestPlace (now (t .entry)) store output q ⌝ }
+{
+    match request_refusal(t, store, output, q) {
+        Judged::Refuse(r) => Placed::Refuse(r),
+        Judged::Accept => with_place(table_finding::free(t, table_layout::records(t)), q),
+    }
+}
+
+// The opening of an accepted request at this place: an initiator's, under GenTID, which is counted.
+pub fn request_opens(t: &[u8], place: usize, q: Request) -> Coming
+    requires { ⌜ headerSize ≤ length (now t) ⌝ }
+    ensures { λ r. ⌜ r ≡ requestOpens (now (t .entry)) place q ⌝ }
 {
     let tid = table_layout::gen_tid_of(t);
     let class = (q.class % 256) as u8;
-    let none = step_plan::no_part();
     let h = Holder {
         place: place,
         role: Role::Initiator,
@@ -86,14 +104,29 @@ fn request_step(t: &[u8], place: usize, q: Request) -> Step
         up: q.user_ack,
         len: 0,
     };
-    let g = Given {
+    let next = table_tids::next_tid(tid);
+    let opening = row_choice::requested(class);
+    Coming::Opens(opening, h, TidChange::Set(next))
+}
+
+pub fn request_given(q: Request) -> Given
+    requires { ⌜ q .len ≤ cellSize ⌝ }
+    ensures { λ r. ⌜ r ≡ requestGiven q ⌝ }
+{
+    Given {
         time: q.time,
         kind: 0,
         reason: 0,
         len: q.len as u32,
         exit_len: 0,
-    };
-    let c = Call {
+    }
+}
+
+pub fn request_call(q: Request) -> Call
+    ensures { λ r. ⌜ r ≡ requestCall q ⌝ }
+{
+    let none = step_plan::no_part();
+    Call {
         message: Part {
             start: 0,
             len: q.len,
@@ -101,33 +134,5 @@ fn request_step(t: &[u8], place: usize, q: Request) -> Step
         info: none,
         user: none,
         tells: Tells::Tid,
-    };
-    let next = table_tids::next_tid(tid);
-    let opening = row_choice::requested(class);
-    step_opening::opening_step(t, opening, h, g, TidChange::Set(next), c)
-}
-
-// With the lowest free record found: number 7, or the step.
-fn with_place(t: &[u8], free: Found, q: Request) -> Plan
-    requires { ⌜ WellFormed (now t) ⌝ }
-    requires { ⌜ placeFor free < recordsBound ⌝ }
-    requires { ⌜ (q .time ≤ timeBound) × (q .len ≤ cellSize) ⌝ }
-    ensures { λ r. ⌜ r ≡ freePlan (now (t .entry)) free q ⌝ }
-{
-    if none_free(free, q.class) {
-        return Plan::Refuse(Refusal::TableFull);
-    }
-    let place = step_opening::place_for(free);
-    let step = request_step(t, place, q);
-    Plan::Go(step)
-}
-
-// A request over a store and an output of these lengths.
-pub fn request_plan(t: &[u8], store: usize, output: usize, q: Request) -> Plan
-    ensures { λ r. ⌜ r ≡ requestPlan (now (t .entry)) store output q ⌝ }
-{
-    match request_refusal(t, store, output, q) {
-        Judged::Refuse(r) => Plan::Refuse(r),
-        Judged::Accept => with_place(t, table_finding::free(t, table_layout::records(t)), q),
     }
 }

@@ -13,7 +13,9 @@ use Rattle.step_plan.specs.declared.Call.{Call}
 use Rattle.step_plan.specs.declared.Tells.the-variants as Tells
 use Rattle.step_plan.specs.declared.Step.{Step}
 use Rattle.step_plan.specs.declared.Plan.{Plan}
-use Rattle.step_live.specs.Turning.{liveStep}
+use Rattle.step_live.specs.Turning.{rowAt, liveStep}
+use Rattle.step_carrying.specs.declared.Coming.{Coming}
+use Rattle.step_carrying.specs.declared.Coming.the-variants.{Live}
 
 -- the tests of its refusals, numbers 1 and 2; document 01's conditions are in crates/law_refusals
 abbrev pub timerTests : List ℕ → ℕ → ℕ → ℕ → List Test
@@ -37,3 +39,11 @@ timerStep t time = stepBy (dueOf t (count t) time) t time
 
 unfoldable pub timerPlan : List ℕ → ℕ → ℕ → ℕ → Plan
 timerPlan t store output time = planBy (lowest (timerTests t store output time)) (timerStep t time)
+
+-- what the code takes apart: the row that the timer meets in the record at a place
+unfoldable pub firedRow : List ℕ → ℕ → Coming
+firedRow t place = Live place (rowAt t place Event.Timer)
+
+-- the step of the record at a place that is fired
+unfoldable pub firedStep : List ℕ → ℕ → ℕ → Step
+firedStep t place time = liveStep t place Event.Timer (firedGiven time) firedCall

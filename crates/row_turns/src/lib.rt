@@ -1,8 +1,11 @@
 // A turn: the right-hand side of a row applied to a record.
 ghost use mathlib.Core.Path.{_≡_};
 ghost use Prim.Native.Nat.{_≤_};
-ghost use Rattle.base_layout.specs.Layout.{timeBound};
-ghost use Rattle.row_turns.specs.Turns.{upOf, rcrAfter, aecAfter, holdOnAfter, tidokSentAfter, holdOnSentAfter, exitLenAfter, storesExit, lenAfter, noTimer, deadlineAfter, newRecord, movedTo, recordAfter, turnOf, rowTurn, openingTurn};
+ghost use lib.ListN.{length};
+ghost use Rattle.base_layout.specs.Layout.{headerSize, timeBound};
+ghost use Rattle.table_layout.specs.Table.{intervalsOf};
+ghost use Rattle.table_tids.specs.Tids.{intervalOf};
+ghost use Rattle.row_turns.specs.Turns.{upOf, rcrAfter, aecAfter, holdOnAfter, tidokSentAfter, holdOnSentAfter, exitLenAfter, storesExit, lenAfter, noTimer, deadlineAfter, newRecord, movedTo, recordAfter, turnOf};
 use row_columns::Act;
 use row_columns::Cache;
 use row_columns::Count;
@@ -12,8 +15,6 @@ use row_columns::Mark;
 use row_columns::Next;
 use row_columns::Send;
 use row_columns::Timer;
-use row_events::Opening;
-use row_events::Row;
 use table_layout::Settings;
 use table_record::Aec;
 use table_record::Rcr;
@@ -171,10 +172,23 @@ pub fn new_record(peer: u8, tid: u16, user_ack: bool) -> Record
     }
 }
 
+// R[RCR] of a class, read where it lies in the table.
+fn interval_of(t: &[u8], class: u8, rcr: Rcr) -> u32
+    requires { ⌜ headerSize ≤ length (now t) ⌝ }
+    ensures { λ v. ⌜ v ≡ intervalOf (intervalsOf (now (t .entry))) class rcr ⌝ }
+{
+    let at = (rcr.0 % 9) as usize * 4;
+    if class == 1 {
+        base_octets::get32(t, base_layout::ROW_1_AT + at)
+    } else {
+        base_octets::get32(t, base_layout::ROW_2_AT + at)
+    }
+}
+
 // The record in its next state.
-fn moved_to(state: State, a: Act, r: Record, g: Given, s: Settings, rows: [[u32; 9]; 2]) -> Record
-    requires { ⌜ g .time ≤ timeBound ⌝ }
-    ensures { λ v. ⌜ v ≡ movedTo state a r g s rows ⌝ }
+fn moved_to(state: State, a: Act, r: Record, g: Given, s: Settings, t: &[u8]) -> Record
+    requires { ⌜ (headerSize ≤ length (now t)) × (g .time ≤ timeBound) ⌝ }
+    ensures { λ v. ⌜ v ≡ movedTo state a r g s (intervalsOf (now (t .entry))) ⌝ }
 {
     let count = a.count;
     let mark = a.mark;
@@ -189,7 +203,7 @@ fn moved_to(state: State, a: Act, r: Record, g: Given, s: Settings, rows: [[u32;
     let hold_on_sent = hold_on_sent_after(mark, r.hold_on_sent);
     let exit_len = exit_len_after(exit, r.exit_len, g.exit_len);
     let class = table_record::class_of(state);
-    let again = table_tids::interval(rows, class, rcr);
+    let again = interval_of(t, class, rcr);
     let deadline = deadline_after(timer, r.deadline, g.time, s, again);
     let len = len_after(a.cell, r.len, g.len);
     Record {
@@ -208,26 +222,27 @@ fn moved_to(state: State, a: Act, r: Record, g: Given, s: Settings, rows: [[u32;
     }
 }
 
-fn record_after(a: Act, r: Record, g: Given, s: Settings, rows: [[u32; 9]; 2]) -> Record
-    requires { ⌜ g .time ≤ timeBound ⌝ }
-    ensures { λ v. ⌜ v ≡ recordAfter (a .next) a r g s rows ⌝ }
+fn record_after(a: Act, r: Record, g: Given, s: Settings, t: &[u8]) -> Record
+    requires { ⌜ (headerSize ≤ length (now t)) × (g .time ≤ timeBound) ⌝ }
+    ensures { λ v. ⌜ v ≡ recordAfter (a .next) a r g s (intervalsOf (now (t .entry))) ⌝ }
 {
     let next = a.next;
     match next {
         Next::Stays => {
             let state = r.state;
-            moved_to(state, a, r, g, s, rows)
+            moved_to(state, a, r, g, s, t)
         }
         Next::Ends => new_record(0, 0, false),
-        Next::Goes(state) => moved_to(state, a, r, g, s, rows),
+        Next::Goes(state) => moved_to(state, a, r, g, s, t),
     }
 }
 
-fn turn_of(a: Act, r: Record, g: Given, s: Settings, rows: [[u32; 9]; 2]) -> Turn
-    requires { ⌜ g .time ≤ timeBound ⌝ }
-    ensures { λ t. ⌜ t ≡ turnOf a r g s rows ⌝ }
+// The turn of a record under a row, or of a new record.
+pub fn turn_of(a: Act, r: Record, g: Given, s: Settings, t: &[u8]) -> Turn
+    requires { ⌜ (headerSize ≤ length (now t)) × (g .time ≤ timeBound) ⌝ }
+    ensures { λ v. ⌜ v ≡ turnOf a r g s (intervalsOf (now (t .entry))) ⌝ }
 {
-    let after = record_after(a, r, g, s, rows);
+    let after = record_after(a, r, g, s, t);
     let send = a.send;
     let first = a.first;
     let second = a.second;
@@ -243,22 +258,4 @@ fn turn_of(a: Act, r: Record, g: Given, s: Settings, rows: [[u32; 9]; 2]) -> Tur
         exit: stores,
         cache: cache,
     }
-}
-
-// The turn of a live record under a row.
-pub fn row_turn(row: Row, r: Record, g: Given, s: Settings, rows: [[u32; 9]; 2]) -> Turn
-    requires { ⌜ g .time ≤ timeBound ⌝ }
-    ensures { λ t. ⌜ t ≡ rowTurn row r g s rows ⌝ }
-{
-    let a = row_entries::act_of(row, r.tidok_sent, g.kind, g.reason);
-    turn_of(a, r, g, s, rows)
-}
-
-// The turn of a new record.
-pub fn opening_turn(opening: Opening, r: Record, g: Given, s: Settings, rows: [[u32; 9]; 2]) -> Turn
-    requires { ⌜ g .time ≤ timeBound ⌝ }
-    ensures { λ t. ⌜ t ≡ openingTurn opening r g s rows ⌝ }
-{
-    let a = row_entries::opening_act(opening);
-    turn_of(a, r, g, s, rows)
 }

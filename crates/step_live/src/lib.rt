@@ -1,16 +1,12 @@
-// The step of an event that comes to a live record: its row, its turn, and the changes of the table.
+// An event that comes to a live record: its row, and whose turn it is.
 ghost use mathlib.Core.Path.{_≡_};
-ghost use Prim.Native.Nat.{_+_, _*_, _≤_, _<_};
+ghost use Prim.Native.Nat.{_+_, _*_, _≤_};
 ghost use lib.ListN.{length};
-ghost use Rattle.base_layout.specs.Layout.{headerSize, recordSize, timeBound, tidBound, recordsBound};
-ghost use Rattle.table_layout.specs.Table.{recordAt};
-ghost use Rattle.step_live.specs.Turning.{rowIn, rowAt, holderOf, liveStep};
+ghost use Rattle.base_layout.specs.Layout.{headerSize, recordSize};
+ghost use Rattle.step_live.specs.Turning.{rowIn, rowAt, holderOf};
 use row_events::Event;
 use row_events::Row;
-use row_turns::Given;
-use step_plan::Call;
 use step_plan::Holder;
-use step_plan::Step;
 use table_layout::Settings;
 use table_record::Record;
 
@@ -33,7 +29,8 @@ pub fn row_at(t: &[u8], place: usize, event: Event) -> Row
     row_in(r, s, event)
 }
 
-fn holder_of(r: Record, place: usize) -> Holder
+// The record's name, class and U/P, and the message in its cell.
+pub fn holder_of(r: Record, place: usize) -> Holder
     ensures { λ h. ⌜ h ≡ holderOf r place ⌝ }
 {
     let state = r.state;
@@ -48,22 +45,4 @@ fn holder_of(r: Record, place: usize) -> Holder
         up: r.user_ack,
         len: r.len,
     }
-}
-
-// The step of the record at a place.
-pub fn live_step(t: &[u8], place: usize, event: Event, g: Given, c: Call) -> Step
-    requires { ⌜ (headerSize + place * recordSize + recordSize ≤ length (now t)) × (place < recordsBound) ⌝ }
-    requires { ⌜ g .time ≤ timeBound ⌝ }
-    requires { ⌜ recordAt (now t) place .tid ≤ tidBound ⌝ }
-    ensures { λ r. ⌜ r ≡ liveStep (now (t .entry)) place event g c ⌝ }
-{
-    let r = table_layout::record_at(t, place);
-    let s = table_layout::settings_of(t);
-    let row = row_in(r, s, event);
-    let intervals = table_layout::intervals_of(t);
-    let turn = row_turns::row_turn(row, r, g, s, intervals);
-    let h = holder_of(r, place);
-    let cached = table_layout::cached_of(t, base_lists::size(r.peer));
-    let changes = step_changes::turn_changes(turn, place, r.peer, r.tid, cached, g.time);
-    step_plan::step_of(turn, changes, h, c)
 }

@@ -7,10 +7,10 @@ use lib.ListN.{length}
 use Rattle.base_lists.proofs.StoresAndParts.{length-put}
 use Rattle.step_commit.specs.Commit.{tableChanged}
 use Rattle.step_commit.proofs.Length.{length-after}
+use Rattle.step_sending.specs.declared.Sender.{Sender}
 use Rattle.step_plan.specs.declared.Part.{Part}
 use Rattle.step_plan.specs.declared.Step.{Step}
-use Rattle.step_outcome.specs.declared.Answer.the-variants.{Taken}
-use Rattle.step_outcome.specs.Carry.{Lent, done, cellWritten, octetsOut, tableThen, storeThen, sentThen, carriedOut, FitOut, Ready}
+use Rattle.step_outcome.specs.Carry.{Lent, done, takenOf, cellWritten, octetsOut, tableThen, storeThen, sentThen, carriedOut, FitOut, Ready}
 use Rattle.step_outcome.proofs.Written.{Sent}
 use Rattle.step_outcome.proofs.Chosen.{fit-still}
 
@@ -18,17 +18,18 @@ cell-length : (store : List ℕ) (cell : Bool) (place : ℕ) (given : List ℕ) 
 cell-length store true place given m = length-put store _ _
 cell-length store false place given m = refl
 
-module _ (l : Lent) (step : Step) (table store : List ℕ)
+module _ (l : Lent) (step : Step) (table store : List ℕ) (by : Sender)
     (t : table ≡ tableChanged (l .table) (step .changes) (l .exit))
-    (s : store ≡ cellWritten (l .store) (step .cell) (step .changes .place) (l .given) (step .message)) where
-  pub sends-still : Ready l step → FitOut (l .given) store table (step .send) (step .by)
+    (s : store ≡ cellWritten (l .store) (step .cell) (step .changes .place) (l .given) (step .message))
+    (b : by ≡ step .by) where
+  pub sends-still : Ready l step → FitOut (l .given) store table (step .send) by
   sends-still ready =
-      fit-still (l .given) (l .store) (l .table) store table (step .send) (step .by)
+      rw b (fit-still (l .given) (l .store) (l .table) store table (step .send) (step .by)
       (ap length s ∙ cell-length (l .store) (step .cell) (step .changes .place) (l .given) (step .message))
       (ap length t ∙ length-after (l .table) (step .changes) (l .exit))
-      (ready .sends)
+      (ready .sends))
 
-  pub carried : (r : ℕ) (out : List ℕ) → Sent r (l .output) out (octetsOut (l .given) store table (step .send) (step .by))
-      → done (Taken r (step .told) (step .first) (step .second)) table store out ≡ carriedOut l step
+  pub carried : (r : ℕ) (out : List ℕ) → Sent r (l .output) out (octetsOut (l .given) store table (step .send) by)
+      → done (takenOf r step) table store out ≡ carriedOut l step
   unfolding carriedOut tableThen storeThen sentThen
-  carried r out d = rw (d .0, d .1, s, t)
+  carried r out d = rw (d .0, d .1, b, s, t)

@@ -79,6 +79,10 @@ storeThen l step = cellWritten (l .store) (step .cell) (step .changes .place) (l
 unfoldable pub sentThen : Lent → Step → List ℕ
 sentThen l step = octetsOut (l .given) (storeThen l step) (tableThen l step) (step .send) (step .by)
 
+-- the answer of a step that sent this much
+abbrev pub takenOf : ℕ → Step → Answer
+takenOf sent step = Taken sent (step .told) (step .first) (step .second)
+
 -- 01: "Output after the PDU is unchanged"
 unfoldable pub carriedOut : Lent → Step → Done
 carriedOut l step =

@@ -2,13 +2,17 @@
 ghost use mathlib.Core.Path.{_≡_};
 ghost use Prim.Native.Nat.{_+_, _*_, _≤_, _<_};
 ghost use lib.ListN.{length};
-ghost use Rattle.base_layout.specs.Layout.{outputLeast};
+ghost use Rattle.base_layout.specs.Layout.{outputLeast, recordsBound};
 ghost use Rattle.base_lists.specs.Seq.{put};
-ghost use Rattle.step_outcome.specs.Carry.{isNothing, CellFits, cellWritten, FitOut, octetsOut, Ready, lent, done, carriedOut};
+ghost use Rattle.step_plan.specs.Steps.{stepOf};
+ghost use Rattle.step_outcome.specs.Carry.{isNothing, CellFits, cellWritten, FitOut, octetsOut, Ready, lent, done, takenOf, carriedOut};
 use base_numbers::Refusal;
 use row_columns::Send;
+use row_turns::Turn;
+use step_commit::Changes;
+use step_plan::Call;
+use step_plan::Holder;
 use step_plan::Part;
-use step_plan::Step;
 use step_plan::Told;
 use step_sending::Sender;
 use step_sending::Source;
@@ -80,32 +84,26 @@ fn send_pdu(
     }
 }
 
-// The whole step; `given` holds the message and the PDU's data, `exit` the exit information.
+// The step of a turn whose changes of the table are known; how much it sent.
 pub fn carry_out(
     table: &mut [u8],
     store: &mut [u8],
     out: &mut [u8],
     given: &[u8],
     exit: &[u8],
-    step: Step,
-) -> Answer
-    requires { ⌜ Ready (lent (now table) (now store) (now out) (now given) (now exit)) step ⌝ }
-    ensures { λ r. ⌜ done r (now (table .exit)) (now (store .exit)) (now (out .exit)) ≡ carriedOut (lent (now (table .entry)) (now (store .entry)) (now (out .entry)) (now (given .entry)) (now (exit .entry))) step ⌝ }
+    turn: Turn,
+    changes: Changes,
+    h: Holder,
+    c: Call,
+) -> usize
+    requires { ⌜ Ready (lent (now table) (now store) (now out) (now given) (now exit)) (stepOf turn changes h c) ⌝ }
+    requires { ⌜ h .place < recordsBound ⌝ }
+    ensures { λ r. ⌜ done (takenOf r (stepOf turn changes h c)) (now (table .exit)) (now (store .exit)) (now (out .exit)) ≡ carriedOut (lent (now (table .entry)) (now (store .entry)) (now (out .entry)) (now (given .entry)) (now (exit .entry))) (stepOf turn changes h c) ⌝ }
 {
-    let changes = step.changes;
-    let message = step.message;
-    let send = step.send;
-    let by = step.by;
-    let told = step.told;
-    let first = step.first;
-    let second = step.second;
+    let message = c.message;
+    let send = turn.send;
+    let by = step_plan::sender_of(turn, h, c);
     step_commit::commit(&mut *table, changes, exit);
-    write_cell(&mut *store, step.cell, changes.place, given, message);
-    let sent = send_pdu(out, given, store, table, send, by);
-    Answer::Taken {
-        sent: sent,
-        told: told,
-        first: first,
-        second: second,
-    }
+    write_cell(&mut *store, turn.cell, changes.place, given, message);
+    send_pdu(out, given, store, table, send, by)
 }

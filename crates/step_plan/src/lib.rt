@@ -2,16 +2,14 @@
 ghost use mathlib.Core.Path.{_≡_};
 ghost use Prim.Native.Nat.{_<_};
 ghost use Rattle.base_layout.specs.Layout.{recordsBound};
-ghost use Rattle.step_plan.specs.Steps.{noPart, cellOf, messageOf, senderOf, placeIn, contextOf, toldOf, stepOf, idleStep};
+ghost use Rattle.step_plan.specs.Steps.{noPart, cellOf, messageOf, senderOf, placeIn, contextOf, toldOf};
 use base_layout::EXIT_OFFSET;
 use base_layout::HEADER_SIZE;
 use base_layout::RECORD_SIZE;
 use base_numbers::Refusal;
 use row_columns::Send;
 use row_turns::Turn;
-use step_commit::Change;
 use step_commit::Changes;
-use step_commit::TidChange;
 use step_sending::Sender;
 use step_shown::Context;
 use step_shown::Place;
@@ -105,7 +103,7 @@ fn message_of(send: Send, h: Holder, c: Call) -> Part
     }
 }
 
-fn sender_of(turn: Turn, h: Holder, c: Call) -> Sender
+pub fn sender_of(turn: Turn, h: Holder, c: Call) -> Sender
     requires { ⌜ h .place < recordsBound ⌝ }
     ensures { λ r. ⌜ r ≡ senderOf turn h c ⌝ }
 {
@@ -135,7 +133,7 @@ fn place_in(source: step_shown::Source, part: Part) -> Place
     }
 }
 
-fn context_of(h: Holder, c: Call) -> Context
+pub fn context_of(h: Holder, c: Call) -> Context
     requires { ⌜ h .place < recordsBound ⌝ }
     ensures { λ r. ⌜ r ≡ contextOf h c ⌝ }
 {
@@ -158,7 +156,7 @@ fn context_of(h: Holder, c: Call) -> Context
     }
 }
 
-fn told_of(tells: Tells, h: Holder) -> Told
+pub fn told_of(tells: Tells, h: Holder) -> Told
     ensures { λ r. ⌜ r ≡ toldOf tells h ⌝ }
 {
     let role = h.role;
@@ -166,66 +164,5 @@ fn told_of(tells: Tells, h: Holder) -> Told
         Tells::Nothing => Told::Nothing,
         Tells::Tid => Told::Tid(h.tid),
         Tells::Record => Told::Fired(role, h.peer, h.tid),
-    }
-}
-
-// The step of a turn whose changes of the table are known.
-pub fn step_of(turn: Turn, changes: Changes, h: Holder, c: Call) -> Step
-    requires { ⌜ h .place < recordsBound ⌝ }
-    ensures { λ r. ⌜ r ≡ stepOf turn changes h c ⌝ }
-{
-    let first = turn.first;
-    let second = turn.second;
-    let send = turn.send;
-    let tells = c.tells;
-    let message = c.message;
-    let context = context_of(h, c);
-    let by = sender_of(turn, h, c);
-    let shown_first = step_shown::shown_of(first, context);
-    let shown_second = step_shown::shown_of(second, context);
-    let told = told_of(tells, h);
-    Step {
-        changes: changes,
-        cell: turn.cell,
-        message: message,
-        send: send,
-        by: by,
-        first: shown_first,
-        second: shown_second,
-        told: told,
-    }
-}
-
-// An accepted call that only stores its time.
-pub fn idle(time: u64) -> Step
-    ensures { λ r. ⌜ r ≡ idleStep time ⌝ }
-{
-    let none = no_part();
-    Step {
-        changes: Changes {
-            place: 0,
-            change: Change::Nothing,
-            exit: false,
-            gen_tid: TidChange::Unchanged,
-            peer: 0,
-            cached: TidChange::Unchanged,
-            time: time,
-        },
-        cell: false,
-        message: none,
-        send: Send::Nothing,
-        by: Sender {
-            role: Role::Initiator,
-            tid: 0,
-            class: 0,
-            user_ack: false,
-            start: 0,
-            len: 0,
-            exit_start: 0,
-            exit_len: 0,
-        },
-        first: Shown::Nothing,
-        second: Shown::Nothing,
-        told: Told::Nothing,
     }
 }

@@ -8,10 +8,8 @@ use lib.Dec.{ltb}
 use borrow.Author.Tests.{ltb-false}
 use Rattle.base_numbers.specs.Numbers.{numberOf}
 use Rattle.base_numbers.specs.declared.Refusal.the-variants.{WrongSize}
-use Rattle.step_outcome.specs.Carry.{Lent, Done, done}
-use Rattle.step_outcome.specs.declared.Answer.{Answer}
-use Rattle.c_answers.specs.Answers.{answerNumber, answerAfter}
-use Rattle.wtp.specs.Engine.{called, handed, orSmall}
+use Rattle.step_outcome.specs.Carry.{Lent, Done}
+use Rattle.wtp.specs.Engine.{Called, called, handed, orSmall}
 
 module _ (words : List ℕ) (few : Bool) (size : few ≡ ltb (length words) 32) where
   pub enough : few ≡ false → 32 ≤ length words
@@ -22,7 +20,6 @@ module _ (words : List ℕ) (few : Bool) (size : few ≡ ltb (length words) 32) 
     unfolding orSmall
     refused-small t r e = rw (sym size ∙ t, e) refl
 
-    pub handed-over : few ≡ false → (a : Answer) (t s o : List ℕ) → done a t s o ≡ d → (r : ℕ) (w : List ℕ) → (r ≡ answerNumber a) × (w ≡ answerAfter a words)
-        → called r t s o w ≡ orSmall l words d
-    unfolding orSmall handed
-    handed-over f a t s o e r w g = rw (sym size ∙ f, ← e, g .0, g .1) refl
+    pub handed-over : few ≡ false → (c : Called) → c ≡ handed d words → c ≡ orSmall l words d
+    unfolding orSmall
+    handed-over f c k = k ∙ rw (sym size ∙ f) refl

@@ -107,8 +107,7 @@ pub extern "C" fn wtp_request(
     if too_few(answer) {
         return base_numbers::number(Refusal::WrongSize);
     }
-    let a = call_engine::request(table, store, out, time, peer, class, 0 < user_ack, user);
-    c_answers::give(answer, a)
+    call_engine::request(table, store, out, answer, time, peer, class, 0 < user_ack, user)
 }
 
 // A user's answer with exit information.
@@ -129,8 +128,7 @@ pub extern "C" fn wtp_answer(
     if too_few(answer) {
         return base_numbers::number(Refusal::WrongSize);
     }
-    let a = call_engine::answer(table, store, out, time, role, peer, tid, exit);
-    c_answers::give(answer, a)
+    call_engine::answer(table, store, out, answer, time, role, peer, tid, exit)
 }
 
 // A user's result with its data.
@@ -151,8 +149,7 @@ pub extern "C" fn wtp_result(
     if too_few(answer) {
         return base_numbers::number(Refusal::WrongSize);
     }
-    let a = call_engine::result(table, store, out, time, role, peer, tid, user);
-    c_answers::give(answer, a)
+    call_engine::result(table, store, out, answer, time, role, peer, tid, user)
 }
 
 // A user's abort with its reason.
@@ -173,8 +170,7 @@ pub extern "C" fn wtp_abort(
     if too_few(answer) {
         return base_numbers::number(Refusal::WrongSize);
     }
-    let a = call_engine::abort(table, store, out, time, role, peer, tid, reason);
-    c_answers::give(answer, a)
+    call_engine::abort(table, store, out, answer, time, role, peer, tid, reason)
 }
 
 // One PDU that came from a peer.
@@ -193,8 +189,7 @@ pub extern "C" fn wtp_receive(
     if too_few(answer) {
         return base_numbers::number(Refusal::WrongSize);
     }
-    let a = call_engine::receive(table, store, out, time, peer, octets);
-    c_answers::give(answer, a)
+    call_engine::receive(table, store, out, answer, time, peer, octets)
 }
 
 // Fires one due record.
@@ -211,8 +206,7 @@ pub extern "C" fn wtp_timer(
     if too_few(answer) {
         return base_numbers::number(Refusal::WrongSize);
     }
-    let a = call_engine::timer(table, store, out, time);
-    c_answers::give(answer, a)
+    call_engine::timer(table, store, out, answer, time)
 }
 
 // Tells the earliest deadline and its record in five words, and changes nothing else: it takes no time and is no entry of a history.
@@ -240,6 +234,5 @@ pub extern "C" fn wtp_fire(
     if too_few(answer) {
         return base_numbers::number(Refusal::WrongSize);
     }
-    let a = call_engine::fire(table, store, out, time, role, peer, tid);
-    c_answers::give(answer, a)
+    call_engine::fire_named(table, store, out, answer, time, role, peer, tid)
 }

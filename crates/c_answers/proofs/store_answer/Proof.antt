@@ -13,14 +13,14 @@ returns : tie.Need-returns
 unfolding answerWords
 returns c =
     let e = c .before .before in
-    let d = e .before .before .before .before .before in
-    let b = d .before .before .before .before .before in
-    let z = b .before .before .before .before .before in
-    let last = z .before .before .before .record-words in
-    let second = z .before .before .before .before .words-of2 in
-    let first = z .before .before .before .before .before .words-of in
-    let head = z .before .before .before .before .before .before .head-words in
-    let x = z .before .before .before .before .before .before .before .before .args in
+    let d = e .before .before .before .before .before .before in
+    let b = d .before .before .before .before .before .before in
+    let z = b .before .before .before .before .before .before in
+    let last = e .before .before .before .record-words in
+    let second = d .before .before .before .words-of2 in
+    let first = b .before .before .before .words-of in
+    let head = z .before .before .before .head-words in
+    let x = z .before .before .before .before .before .args in
     let la : length (head .result) ≡ 4 = omega arith in
     let lb : length (first .result) ≡ 12 = omega arith in
     let lc : length (second .result) ≡ 12 = omega arith in
@@ -31,6 +31,4 @@ returns c =
 pub store-answer-spec : {M : Type 1} → statement M
 store-answer-spec =
     tie.close (tie.spec
-    (λ c κs. search needs) (λ c κs. search needs) (λ c κs. search needs) (λ c κs. search needs) (λ c. search needs)
-    (λ c κs. search needs) (λ c. search needs) (λ c κs. search needs) (λ c. search needs) (λ c κs. search needs)
-    (λ c. search needs) (λ c κs. search needs) (λ c. search needs) returns)
+    (λ c κs. search needs) (λ c. search needs) (λ c κs. search needs) (λ c κs. search needs) (λ c. search needs) (λ c κs. search needs) (λ c κs. search needs) (λ c. search needs) (λ c κs. search needs) (λ c κs. search needs) (λ c. search needs) (λ c κs. search needs) (λ c. search needs) returns)

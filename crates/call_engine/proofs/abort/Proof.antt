@@ -12,5 +12,5 @@ unfolding promised
 abort-spec =
     tie.close (tie.spec
     (λ c. search needs) (λ c. search needs)
-    (λ c κs. sound-ready _ _ (call-sound (Call.Abort _ _ _ _ _) _ (refl, refl)))
-    (λ c. search needs) (λ c. search needs) (λ c. search needs) (λ c. search needs))
+    (λ c κs. (sound-ready _ _ (call-sound (Call.Abort _ _ _ _ _) _ (refl, refl)), c .before .before .before .before .before .before .before .before .before .pre))
+    (λ c. search needs) (λ c. search needs) (λ c. search needs) (λ c. search needs) (λ c. search needs))

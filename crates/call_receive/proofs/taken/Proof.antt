@@ -1,15 +1,15 @@
--- `call_receive::taken` meets its contract: the way to each return picks the case of the definition. Assumes nothing.
+-- `call_receive::taken` meets its contract, from its callees' contracts. Assumes nothing.
 use Rattle.codec_items.specs.Info.{infoFrom}
 use Rattle.codec_pdu.specs.Pdu.{infoOf}
 use Rattle.codec_pdu.specs.Brief.{asPdu}
-use Rattle.call_receive.specs.Receives.{takenStep, takenGiven, takenCall, userPart}
+use Rattle.call_receive.specs.Receives.{takenTurn, takenGiven, takenCall, userPart}
 use borrow.Author.Needs.{needs}
 use Rattle.call_receive.proofs.taken.Statement.{statement}
 use Rattle.call_receive.proofs.taken.Tie as tie
 
 pub taken-spec : {M : Type 1} → statement M
-unfolding takenStep takenGiven takenCall userPart asPdu infoOf infoFrom
+unfolding takenTurn takenGiven takenCall userPart asPdu infoOf infoFrom
 taken-spec =
     tie.close (tie.spec
     (λ c κs. search needs) (λ c κs. search needs) (λ c κs. search needs) (λ c κs. search needs)
-    (λ c. simp (c .live-step .ensures, c .before .no-part .ensures, c .before .before .before .abort-of .ensures, c .before .before .before .before .event-of .ensures)))
+    (λ c. simp (c .row-at .ensures, c .before .no-part .ensures, c .before .before .before .abort-of .ensures, c .before .before .before .before .event-of .ensures)))
