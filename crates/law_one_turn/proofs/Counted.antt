@@ -57,7 +57,7 @@ octets-short given store table send by f = go (isNothing send) refl
 module _ (call : Call) (l : Lent) (step : Step) (f : Fits l) (ok : Sound l step) where
   sent-short : length (sentThen l step) ≤ outputLeast
   unfolding sentThen tableThen storeThen
-  sent-short = octets-short (l .given) _ _ (step .send) (step .by) (sends-still l step _ _ refl refl (ok .ready))
+  sent-short = octets-short (l .given) _ _ (step .send) (step .by) (sends-still l step _ _ (step .by) refl refl refl (ok .ready))
 
   sent-back : part (carriedOut l step .output) 0 (length (sentThen l step)) ≡ sentThen l step
   unfolding carriedOut

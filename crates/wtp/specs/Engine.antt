@@ -1,11 +1,12 @@
 -- The C interface of the engine: each call's result, and what table, store, output and answer then hold, as one value (01, "How the answers are held").
+use Prim.Native.Nat.{ℕ}
 use mathlib.Core.List.{List}
 use lib.ListN.{length}
 use Rattle.base_numbers.specs.Numbers.{numberOf}
 use Rattle.base_numbers.specs.declared.Refusal.the-variants.{WrongSize}
 use Rattle.step_outcome.specs.Carry.{Lent, Done}
 use Rattle.call_plans.specs.Calls.{Call, promised}
-pub use Rattle.c_answers.specs.Handed.{Called, called, handed}
+unfoldable pub use Rattle.c_answers.specs.Handed.{Called, called, handed}
 use Rattle.c_codec.specs.Calls.{orSize}
 
 -- the C interface: "`answer` has at least 32 words .. else number 1", and then "A refused .. call changes no lent byte and no lent word"
