@@ -29,7 +29,7 @@ awk -v status="$status" '
     END { printf "%d passed, %d failed\n", passed, failed == 0 && status != 0 ? 1 : failed }' "$logs/cargo.log" >"$logs/cargo.count"
 count_from "$logs/cargo.count"
 
-for script in programs samples; do
+for script in programs samples stack; do
     "host/tests/$script.sh" 2>&1 | tee "$logs/$script.log" || true
     count_from "$logs/$script.log"
 done

@@ -4,3 +4,4 @@ pub mod Opened
 pub mod Taken
 pub mod Fired
 pub mod Received
+pub mod NamedFiring

@@ -179,8 +179,14 @@ pub fn receive(
     requires { ⌜ 32 ≤ length (now answer) ⌝ }
     ensures { λ r. ⌜ called r (now (table .exit)) (now (store .exit)) (now (output .exit)) (now (answer .exit)) ≡ handed (promised (Call.Receive time peer) (lent (now (table .entry)) (now (store .entry)) (now (output .entry)) (now (octets .entry)) [])) (now (answer .entry)) ⌝ }
 {
-    let none = [0u8; 1];
-    match call_receive::receive_refusal(table, store.len(), output.len(), time, peer, octets.len()) {
+    match call_receive::receive_refusal(
+        table,
+        store.len(),
+        output.len(),
+        time,
+        peer,
+        octets.len(),
+    ) {
         Judged::Refuse(r) => base_numbers::number(r),
         Judged::Accept => {
             match call_receive::receive_turn(table, time, (peer % 256) as u8, octets) {
@@ -191,7 +197,7 @@ pub fn receive(
                     output,
                     answer,
                     octets,
-                    &none[..0],
+                    &octets[..0],
                     coming,
                     g,
                     c,

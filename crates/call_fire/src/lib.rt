@@ -25,7 +25,15 @@ fn named_place(t: &[u8], found: Found, time: u64) -> Placed
 }
 
 // Firing the record of this role, peer and TID, over a store and an output of these lengths: a number, or its place.
-pub fn fire_place(t: &[u8], store: usize, output: usize, time: u64, role: u64, peer: u64, tid: u64) -> Placed
+pub fn fire_place(
+    t: &[u8],
+    store: usize,
+    output: usize,
+    time: u64,
+    role: u64,
+    peer: u64,
+    tid: u64,
+) -> Placed
     ensures { λ r. ⌜ r ≡ firePlace (now (t .entry)) store output (asFire time role peer tid) ⌝ }
 {
     match call_refusal::peer_entry(t, store, output, time, peer) {

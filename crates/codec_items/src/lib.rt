@@ -2,7 +2,7 @@
 ghost use mathlib.Core.Path.{_≡_};
 ghost use Prim.Native.Nat.{_≤_, _<_};
 ghost use lib.ListN.{length};
-ghost use Rattle.codec_items.specs.Items.{itemOf, itemAt, noItems};
+ghost use Rattle.codec_items.specs.Items.{itemOf, itemAt};
 ghost use Rattle.codec_items.specs.Found.{endFrom, infoPlace, infoIn};
 use base_numbers::Verdict;
 
@@ -74,35 +74,20 @@ pub fn item_at(s: &[u8], at: usize) -> Got
     item_of(s, h, true, b + 1, base_lists::size(len))
 }
 
-// No items, up to the place `end`.
-pub fn none(verdict: Verdict, end: usize) -> Items
-    ensures { λ r. ⌜ r ≡ noItems verdict end ⌝ }
-{
-    Items {
-        verdict: verdict,
-        count: 0,
-        end: end,
-        list: [Item {
-            identity: 0,
-            long: false,
-            start: 0,
-            len: 0,
-        }; 16],
-    }
-}
-
 // The place after the items from `at` on, of which `left` are still permitted; 0 where one is cut, 1 where one more follows.
 pub fn end_from(s: &[u8], at: usize, left: usize) -> usize
+    requires { ⌜ 1 ≤ left ⌝ }
     ensures { λ r. ⌜ r ≡ endFrom left (now (s .entry)) at ⌝ }
 {
-    if left == 0 {
-        return 1;
-    }
     match item_at(s, at) {
         Got::Cut => 0,
         Got::One { con, next, .. } => {
             if con {
-                end_from(s, next, left - 1)
+                if left == 1 {
+                    1
+                } else {
+                    end_from(s, next, left - 1)
+                }
             } else {
                 next
             }

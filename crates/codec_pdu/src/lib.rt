@@ -4,7 +4,6 @@ ghost use Rattle.codec_pdu.specs.Pdu.{soundOf, bareOf, blankPdu};
 ghost use Rattle.codec_pdu.specs.Brief.{briefOf};
 use base_numbers::Malformed;
 use base_numbers::Refusal;
-use base_numbers::Verdict;
 use codec_items::Info;
 use codec_items::Item;
 
@@ -103,22 +102,6 @@ pub fn bare(kind: Kind) -> bool
         Kind::Nack { .. } => true,
         Kind::Wrong(_) => false,
         Kind::Refused(_) => false,
-    }
-}
-
-// No PDU, for the reason that the kind says.
-pub fn blank(kind: Kind) -> Pdu
-    ensures { λ r. ⌜ r ≡ blankPdu kind ⌝ }
-{
-    let none = codec_items::none(Verdict::Sound, 0);
-    let list = none.list;
-    Pdu {
-        kind: kind,
-        tid: 0,
-        count: 0,
-        list: list,
-        start: 0,
-        len: 0,
     }
 }
 

@@ -69,8 +69,21 @@ fn changes_for(t: &[u8], coming: Coming, turn: Turn, h: Holder, time: u64) -> Ch
 {
     let cached = table_layout::cached_of(t, base_lists::size(h.peer));
     match coming {
-        Coming::Live(_, _) => step_changes::turn_changes(turn, h.place, h.peer, h.tid, cached, time),
-        Coming::Opens(_, _, gen_tid) => step_opening::opening_changes(turn, h, cached, gen_tid, time),
+        Coming::Live(_, _) => step_changes::turn_changes(
+            turn,
+            h.place,
+            h.peer,
+            h.tid,
+            cached,
+            time,
+        ),
+        Coming::Opens(_, _, gen_tid) => step_opening::opening_changes(
+            turn,
+            h,
+            cached,
+            gen_tid,
+            time,
+        ),
     }
 }
 

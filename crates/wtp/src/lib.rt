@@ -107,7 +107,17 @@ pub extern "C" fn wtp_request(
     if too_few(answer) {
         return base_numbers::number(Refusal::WrongSize);
     }
-    call_engine::request(table, store, out, answer, time, peer, class, 0 < user_ack, user)
+    call_engine::request(
+        table,
+        store,
+        out,
+        answer,
+        time,
+        peer,
+        class,
+        0 < user_ack,
+        user,
+    )
 }
 
 // A user's answer with exit information.

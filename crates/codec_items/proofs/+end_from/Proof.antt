@@ -5,7 +5,7 @@ use mathlib.Core.Path.{_∙_, sym}
 use Prim.Native.Nat.{ℕ, _<_}
 use borrow.Fn.Kinds.{In}
 use borrow.Fn.PlainCycle.{Measures, is, falls, and}
-use Rattle.codec_items.proofs.WalkSteps.{end-none, end-more}
+use Rattle.codec_items.proofs.WalkSteps.{end-last, end-more}
 use Rattle.codec_items.proofs.end_from.Reads as end-from
 use Rattle.codec_items.proofs.end_from.Kinds as end-from-kinds
 use Rattle.codec_items.proofs.+end_from.Lts-end_from as end-from-lts
@@ -27,8 +27,8 @@ pub +end-from-spec : {M : Type 1} → statement M
 +end-from-spec =
     close μ-end-from λ t. end-from-lts.spec
     (item-at-reads.Asked, item-at-reads.Learnt, end-from-below t, end-from.Post) (end-from-at t) end-from.Post
-    (λ c. sym (end-none _ _ _ (c .if1 .taken)))
     (λ c κs. search needs) (λ c. search needs) (λ c. search needs) (λ c. search needs) (λ c κs. search needs)
-    (λ c. rw (end-more _ _ _ (c .before .before .before .if1 .left), ← c .before .before .item-at .ensures, c .enum-told .given .1))
-    (λ c. rw (end-more _ _ _ (c .before .before .before .before .before .before .if1 .left), ← c .before .before .before .before .before .item-at .ensures, c .before .before .before .con .given .1, c .before .if2 .taken) (c .end-from .ensures))
-    (λ c. rw (end-more _ _ _ (c .before .before .before .before .before .if1 .left), ← c .before .before .before .before .item-at .ensures, c .before .before .con .given .1, c .if2 .left))
+    (λ c. rw (end-more _ _ _ (c .before .before .before .before .pre .1), ← c .before .before .item-at .ensures, c .enum-told .given .1))
+    (λ c. rw (end-more _ _ _ (c .before .before .before .before .before .before .before .pre .1), ← c .before .before .before .before .before .item-at .ensures, c .before .before .before .con .given .1, c .before .if1 .taken) (sym (end-last _ _ _ (c .if2 .taken))))
+    (λ c. rw (end-more _ _ _ (c .before .before .before .before .before .before .before .before .pre .1), ← c .before .before .before .before .before .before .item-at .ensures, c .before .before .before .before .con .given .1, c .before .before .if1 .taken) (c .end-from .ensures))
+    (λ c. rw (end-more _ _ _ (c .before .before .before .before .before .before .pre .1), ← c .before .before .before .before .item-at .ensures, c .before .before .con .given .1, c .if1 .left))
