@@ -10,7 +10,7 @@ use Rattle.step_outcome.specs.Carry.{Lent, lent, Ready, carriedOut}
 use Rattle.c_answers.specs.Handed.{Called, handed}
 use Rattle.law_places.proofs.Whole.{Whole}
 use Rattle.call_refusal.specs.declared.Placed.the-variants as Placed
-use Rattle.call_timer.specs.Timers.{firedStep, stepBy}
+use Rattle.call_timer.specs.Timers.{firedStep}
 use Rattle.call_fire.specs.Fires.{asFire, firePlace, firePlan}
 use Rattle.call_fire.proofs.Placing.{fire-goes, fire-known, fire-refuses}
 use Rattle.call_plans.specs.Calls.{Call, promised}
@@ -20,7 +20,7 @@ use Rattle.call_engine.proofs.Carrying.{goes-ready, refused-so, gone-so
 module _ (t s o : List ℕ) (time role peer tid : ℕ) where
   module _ (place : ℕ) (e : Placed.At place ≡ firePlace t (length s) (length o) (asFire time role peer tid)) where
     goes : firePlan t (length s) (length o) (asFire time role peer tid) ≡ Plan.Go (firedStep t place time)
-    unfolding firedStep stepBy
+    unfolding firedStep
     goes = fire-goes t (length s) (length o) (asFire time role peer tid) place e
 
     pub known : Whole t place × (time ≤ timeBound)

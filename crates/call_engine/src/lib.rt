@@ -179,6 +179,7 @@ pub fn receive(
     requires { ⌜ 32 ≤ length (now answer) ⌝ }
     ensures { λ r. ⌜ called r (now (table .exit)) (now (store .exit)) (now (output .exit)) (now (answer .exit)) ≡ handed (promised (Call.Receive time peer) (lent (now (table .entry)) (now (store .entry)) (now (output .entry)) (now (octets .entry)) [])) (now (answer .entry)) ⌝ }
 {
+    let none = [0u8; 1];
     match call_receive::receive_refusal(
         table,
         store.len(),
@@ -197,7 +198,7 @@ pub fn receive(
                     output,
                     answer,
                     octets,
-                    &octets[..0],
+                    &none[..0],
                     coming,
                     g,
                     c,

@@ -22,7 +22,8 @@ use Rattle.step_plan.specs.declared.Step.{Step}
 use Rattle.step_plan.specs.declared.Plan.the-variants.{Go}
 use Rattle.step_live.specs.Turning.{liveStep}
 use Rattle.step_opening.specs.Opens.{openingStep}
-use Rattle.law_places.proofs.Places.{LiveAt, due-live}
+use Rattle.law_places.specs.Places.{LiveAt}
+use Rattle.law_places.proofs.Places.{due-live}
 use Rattle.call_refusal.proofs.Going.{Entered}
 use Rattle.call_request.specs.Requests.{requestCall, requestStep}
 use Rattle.call_request.proofs.Accepted as Requests
