@@ -6,7 +6,8 @@ use Rattle.base_numbers.specs.Numbers.{numberOf}
 use Rattle.base_numbers.specs.declared.Refusal.the-variants.{WrongSize}
 use Rattle.step_outcome.specs.Carry.{Lent, Done}
 use Rattle.call_plans.specs.Calls.{Call, promised}
-unfoldable pub use Rattle.c_answers.specs.Handed.{Called, called, handed}
+pub use Rattle.c_answers.specs.Handed.{Called, called}
+unfoldable pub use Rattle.c_answers.specs.Handed.{handed}
 use Rattle.c_codec.specs.Calls.{orSize}
 
 -- the C interface: "`answer` has at least 32 words .. else number 1", and then "A refused .. call changes no lent byte and no lent word"
