@@ -5,7 +5,7 @@
 #include "calls.h"
 #include "painted.h"
 
-#define CALLS 14 /* at most */
+#define CALLS 16 /* at most */
 
 struct lent lent;
 int rows_shown;
@@ -68,6 +68,16 @@ void receive(uint64_t now, uint64_t peer, const struct octets *pdu)
 void timer(uint64_t now)
 {
     READY(wtp_timer, LENT, now);
+}
+
+void fire(uint64_t now, uint64_t tid)
+{
+    READY(wtp_fire, LENT, now, WTP_INITIATOR, PEER, tid);
+}
+
+void deadline(void)
+{
+    READY(wtp_deadline, AT(lent.table), wtp_table_bytes(lent.records), AT(lent.words), lent.words_len);
 }
 
 void read_pdu(const struct octets *pdu)

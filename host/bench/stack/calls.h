@@ -31,6 +31,8 @@ void result(uint64_t now, uint64_t role, uint64_t tid, const struct octets *data
 void user_abort(uint64_t now, uint64_t role, uint64_t tid);
 void receive(uint64_t now, uint64_t peer, const struct octets *pdu);
 void timer(uint64_t now);
+void fire(uint64_t now, uint64_t tid); /* a record of an initiator */
+void deadline(void);
 void read_pdu(const struct octets *pdu);
 void write_pdu(const uint64_t *fields, size_t fields_len, const struct octets *bytes);
 void separate(const struct octets *datagram, uint64_t k);

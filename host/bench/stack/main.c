@@ -11,7 +11,8 @@ static const struct {
 } calls[] = {
     { "wtp_table_bytes", 8 }, { "wtp_fresh", 40 }, { "wtp_read", 1024 }, { "wtp_write", 1024 }, { "wtp_separate", 40 },
     { "wtp_join", 64 }, { "wtp_request", 1024 }, { "wtp_answer", 1024 }, { "wtp_result", 1024 }, { "wtp_abort", 1024 },
-    { "wtp_receive", 1024 }, { "wtp_timer", 1024 }, { "wtp_read_part", 1024 }, { "wtp_data", 8 },
+    { "wtp_receive", 1024 }, { "wtp_timer", 1024 }, { "wtp_fire", 1024 }, { "wtp_deadline", 272 },
+    { "wtp_read_part", 1024 }, { "wtp_data", 8 },
 };
 
 #define CALLS (sizeof calls / sizeof calls[0])

@@ -1,4 +1,4 @@
-/* Rows of the timer call. */
+/* Rows of the timer call, and of the two that it is made of. */
 #include "pdus.h"
 #include "rows.h"
 #include "tables.h"
@@ -69,9 +69,26 @@ static void nothing_fires(void)
     row("refused, 1: a table that isn't well formed", WTP_WRONG_SIZE);
 }
 
+static void in_two(void)
+{
+    initiators(RECORDS, RECORDS, 2, 0);
+    deadline();
+    row("48 records with a deadline", WTP_OK);
+    fire(DUE, LAST);
+    row("Invoke of 1,024 octets again, the last of 48 records", WTP_OK);
+    fire(DUE, LAST);
+    row("refused, 9: not due again", WTP_NOT_ALLOWED);
+    fire(DUE, RECORDS);
+    row("refused, 8: no such record", WTP_NO_RECORD);
+    damaged();
+    deadline();
+    row("refused, 1: a table that isn't well formed", WTP_WRONG_SIZE);
+}
+
 void timer_rows(void)
 {
     sent_again();
     no_answer();
     nothing_fires();
+    in_two();
 }
