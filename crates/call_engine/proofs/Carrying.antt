@@ -1,6 +1,6 @@
 -- From a plan to what is carried out and handed over, case by case. Assumes nothing.
 use Prim.Native.Nat.{ℕ}
-use mathlib.Core.Path.{_≡_, refl, _∙_}
+use mathlib.Core.Path.{_≡_, refl, sym, _∙_}
 use mathlib.Core.List.{List}
 use Rattle.base_numbers.specs.Numbers.{numberOf}
 use Rattle.base_numbers.specs.declared.Refusal.{Refusal}
@@ -10,8 +10,8 @@ use Rattle.step_plan.specs.declared.Step.{Step}
 use Rattle.step_plan.specs.declared.Plan.{Plan}
 use Rattle.step_plan.specs.declared.Plan.the-variants.{Refuse, Go}
 use Rattle.step_outcome.specs.Carry.{Lent, Ready, carriedOut, outcome}
-use Rattle.c_answers.specs.Answers.{answerNumber, answerAfter}
 use Rattle.c_answers.specs.Handed.{Called, called, handed}
+use Rattle.c_answers.proofs.Refusing.{refused-handed}
 use Rattle.step_carrying.specs.Coming.{comingStep}
 use Rattle.step_carrying.specs.declared.Coming.{Coming}
 use Rattle.law_plans_sound.specs.Plans.{PlanSound}
@@ -23,8 +23,8 @@ module _ (l : Lent) (plan : Plan) where
   goes-ready step e ready = rw e at ready
 
   pub refused-so : (r : Refusal) (n : ℕ) (words : List ℕ) → n ≡ numberOf r → plan ≡ Refuse r → called n (l .table) (l .store) (l .output) words ≡ handed (outcome l plan) words
-  unfolding outcome handed answerNumber answerAfter
-  refused-so r n words k e = rw (k, e) refl
+  unfolding outcome
+  refused-so r n words k e = rw (k, e) (sym (refused-handed r (l .table) (l .store) (l .output) words))
 
   pub gone-so : (step : Step) (d : Called) (words : List ℕ) → plan ≡ Go step → d ≡ handed (carriedOut l step) words → d ≡ handed (outcome l plan) words
   unfolding outcome
