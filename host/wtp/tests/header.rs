@@ -92,7 +92,7 @@ fn enumerators() -> BTreeMap<String, usize> {
 #[test]
 fn every_function_has_the_parameters_of_the_header() {
     let in_c = declared_in_c();
-    assert_eq!(in_c.len(), 14);
+    assert_eq!(in_c.len(), 16);
     assert_eq!(in_c, declared_in_rust());
 }
 
