@@ -140,12 +140,17 @@ check "the port is in use" says 2 "$address can't be used" gateway --listen "$ad
 check "an output that nobody reads" bash -c "$runner '$programs/reader' --gateway '$address' --interval 100 '$one' 2>'$work/pipe' | true
     ! grep panicked '$work/pipe'"
 
-echo "hostile datagrams"
-for octets in '' '\000' '\000\000' '\016\000\005' '\377' "$(head -c 1501 /dev/zero | tr '\0' 'x')" "$(head -c 9000 /dev/zero | tr '\0' 'x')"; do
-    printf "$octets" >"$work/datagram"
+# datagram OCTETS: sends them to the gateway, as printf has them.
+datagram() {
+    printf "$1" >"$work/datagram"
     python3 -c 'import socket, sys
 host, port = sys.argv[1].rsplit(":", 1)
 socket.socket(socket.AF_INET, socket.SOCK_DGRAM).sendto(open(sys.argv[2], "rb").read(), (host, int(port)))' "$address" "$work/datagram"
+}
+
+echo "hostile datagrams"
+for octets in '' '\000' '\000\000' '\016\000\005' '\377' "$(head -c 1501 /dev/zero | tr '\0' 'x')" "$(head -c 9000 /dev/zero | tr '\0' 'x')"; do
+    datagram "$octets"
 done
 for length in 0 1 2 1501 9000; do
     check "a datagram of $length octets" waits_for "a datagram of $length octets was dropped" "$work/first.log"
@@ -166,6 +171,25 @@ vanished() {
         grep -q "NO ANSWER     none came" "$work/said"
 }
 check "a file that can't be written any more" vanished
+
+echo "frames of the Reliable Data Service"
+gateway frames --rds --loss 10
+check "a value on a bad line" says 0 "VALUE         NO2 41.2 ug/m3" reader --rds --gateway "$address" --interval 100 --loss 20 --duplicate 20 "$one"
+check "the port was reserved" waits_for "Reserve of our port 5 with its port 3 was answered: Success" "$work/frames.log"
+check "and released" waits_for "Release of our port 5 with its port 3 was answered: Success" "$work/frames.log"
+check "a reader without frames has no answer" says 1 "NO ANSWER     none came" reader --gateway "$address" --interval 20 "$one"
+stop "$process"
+check "nobody is there" says 1 "NO ANSWER     no port is reserved at the gateway" reader --rds --gateway "$address" --interval 20 "$one"
+# An Invoke, each time in a frame that isn't sound, and last in a sound one between ports that aren't reserved.
+gateway malformed --rds
+for octets in '\310\065\016\000\005\002' '\110' '\000\002\016\000\005\002' '\140\003\016\000\005\002' '\110\065\016\000\005\002'; do
+    datagram "$octets"
+done
+check "a frame that isn't for us is dropped" waits_for "a frame of 6 octets was dropped: its ports aren't reserved with each other" "$work/malformed.log"
+stop "$process"
+check "no Invoke was shown" grep -q "gateway: 0 Invokes shown" "$work/malformed.log"
+check "nothing was handed on" grep -q "frames: 0 datagrams handed on to WTP, 4 malformed and dropped, 1 not for us" "$work/malformed.log"
+check "nothing was sent" grep -q "gateway: 0 datagrams sent" "$work/malformed.log"
 
 echo "signals"
 # interrupted SIGNAL: a reader that waits for an answer is stopped.

@@ -1,14 +1,23 @@
 //! The switches that reader and gateway share.
 
 use crate::line::{Faults, Line};
+use crate::modem::Modem;
+use crate::step::End;
+use crate::wire::Repeats;
 use kit::args::Given;
 use kit::Random;
+use rds::Side;
 use wtp::{Settings, Table};
 
 pub const DEFAULT_ADDRESS: &str = "127.0.0.1:9201";
 pub const VALUED: [&str; 7] = ["--records", "--retries", "--interval", "--loss", "--duplicate", "--delay", "--seed"];
 
-pub const HELP: &str = "  --records N          records of the table, 1 to 48: so many transactions at a time (8; a gateway 48)
+pub const FLAGS: [&str; 1] = ["--rds"];
+
+pub const HELP: &str =
+    "  --rds                each datagram in a UI frame of the Reliable Data Service (the reader is the UE), between ports that
+                       the reader reserves at the start and releases at the end; repeats as for PDUs; both ends or none (no)
+  --records N          records of the table, 1 to 48: so many transactions at a time (8; a gateway 48)
   --retries N          RCR_MAX, 0 to 8: how often a PDU is sent again (8)
   --interval MS        R and A, 1 to 60000: how long an answer is waited for; W is (retries + 1) of them (350)
   --loss PERCENT       so many of the datagrams sent are lost, 0 to 100 (0)
@@ -25,6 +34,7 @@ pub struct Common {
     interval: u64,
     faults: Faults,
     seed: u64,
+    rds: bool,
 }
 
 impl Common {
@@ -40,6 +50,7 @@ impl Common {
             interval: given.number("--interval", 350, 1..=60_000)?,
             faults,
             seed: given.number("--seed", 1, 0..=u64::MAX)?,
+            rds: given.has("--rds"),
         })
     }
 
@@ -64,6 +75,15 @@ impl Common {
 
     pub fn line(&self) -> Line {
         Line::new(self.faults, self.seed)
+    }
+
+    /// The end behind its modem.
+    pub fn modem<E: End>(&self, end: E, side: Side) -> Modem<E> {
+        if self.rds {
+            Modem::rds(end, side, Repeats { after: self.interval, times: self.retries })
+        } else {
+            Modem::plain(end)
+        }
     }
 }
 

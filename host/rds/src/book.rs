@@ -75,9 +75,10 @@ impl Book {
     }
 
     /// The outstanding command once more.
-    pub fn again(&mut self) -> Result<Vec<u8>, Refused> {
-        accepted(ffi::again(&self.book, &mut self.out, &mut self.answer))?;
-        sent(&self.out, &self.answer)
+    pub fn again(&self) -> Result<Vec<u8>, Refused> {
+        let (mut out, mut answer) = ([0; ffi::SENDING], [0; ffi::ANSWER]);
+        accepted(ffi::again(&self.book, &mut out, &mut answer))?;
+        sent(&out, &answer)
     }
 
     /// Gives the outstanding command up; no port changes.
@@ -92,28 +93,36 @@ impl Book {
     }
 
     /// What is kept of a port of ours; none where it is free.
-    pub fn port(&mut self, own: u8) -> Result<Option<Kept>, Refused> {
-        self.told(own)?;
-        if own == 0 || self.answer == [0; ffi::ANSWER] {
-            return Ok(None);
-        }
-        self.kept_port().map(Some).ok_or(Refused::Unreadable)
+    pub fn port(&self, own: u8) -> Result<Option<Kept>, Refused> {
+        let told = self.told(own)?.filter(|_| own != 0);
+        told.map(|told| told.port().ok_or(Refused::Unreadable)).transpose()
     }
 
     /// Our outstanding command; none where there is none.
-    pub fn outstanding(&mut self) -> Result<Option<Outstanding>, Refused> {
-        self.told(0)?;
-        if self.answer == [0; ffi::ANSWER] {
-            return Ok(None);
-        }
-        self.kept_command().map(Some).ok_or(Refused::Unreadable)
+    pub fn outstanding(&self) -> Result<Option<Outstanding>, Refused> {
+        self.told(0)?.map(|told| told.command().ok_or(Refused::Unreadable)).transpose()
     }
 
-    fn told(&mut self, port: u8) -> Result<(), Refused> {
-        accepted(ffi::port(&self.book, port.into(), &mut self.out, &mut self.answer))
+    /// What the library tells of a place; none where nothing is kept there.
+    fn told(&self, port: u8) -> Result<Option<Told>, Refused> {
+        let mut told = Told { out: [0; ffi::SENDING], answer: [0; ffi::ANSWER] };
+        accepted(ffi::port(&self.book, port.into(), &mut told.out, &mut told.answer))?;
+        Ok((told.answer != [0; ffi::ANSWER]).then_some(told))
     }
 
-    fn kept_port(&self) -> Option<Kept> {
+    fn lent(&mut self) -> Lent<'_> {
+        Lent { book: &mut self.book, out: &mut self.out, answer: &mut self.answer }
+    }
+}
+
+/// What the library told of a port or of the command.
+struct Told {
+    out: [u8; ffi::SENDING],
+    answer: [u64; ffi::ANSWER],
+}
+
+impl Told {
+    fn port(&self) -> Option<Kept> {
         let [length, _, _, _, _, peers, format, _, _, _, _, whom, ..] = self.answer;
         let whom = match whom {
             1 => Whom::Us,
@@ -124,7 +133,7 @@ impl Book {
         Some(Kept { whom, peers: small(peers)?, application, format: small(format)? })
     }
 
-    fn kept_command(&self) -> Option<Outstanding> {
+    fn command(&self) -> Option<Outstanding> {
         let [length, _, action, _, own, peers, formats, ..] = self.answer;
         let application = part(&self.out, 0, length)?.to_vec();
         Some(Outstanding {
@@ -134,9 +143,5 @@ impl Book {
             application,
             formats: small(formats)?,
         })
-    }
-
-    fn lent(&mut self) -> Lent<'_> {
-        Lent { book: &mut self.book, out: &mut self.out, answer: &mut self.answer }
     }
 }
