@@ -1,11 +1,12 @@
 #!/usr/bin/env bash
-# Builds the proved library and bench over it, counts the instructions of each call and prints bench's table.
+# Builds the proved libraries and bench over them, counts the instructions of each call and prints bench's table.
 set -euo pipefail
-usage="usage: host/bench/run.sh [--quick]
+usage="usage: host/bench/run.sh [--rds] [--quick]
 
 Prints ns and instructions of a call of the proved library beside host/twin, in the same run and on the same inputs, as a
 table in Markdown with the ratios, and first where and how they were made.
 
+  --rds    the calls of the Reliable Data Service beside host/rds_twin, instead of those of WTP beside host/twin
   --quick  fewer and shorter rounds of the clock, and fewer calls that are counted
   --help   prints this
 
@@ -13,13 +14,16 @@ Instructions are counted by valgrind, or, on a machine that is not x86-64, by qe
 count of a call is exact: TIMES more calls, divided by TIMES, less an empty call from the same table, counted in the same way."
 
 quick=""
+rds=""
 times=20
-case "$*" in
-"") ;;
---quick) quick=--quick times=10 ;;
---help) echo "$usage" && exit 0 ;;
-*) echo "$usage" >&2 && exit 2 ;;
-esac
+for argument; do
+    case "$argument" in
+    --rds) rds=--rds ;;
+    --quick) quick=--quick times=10 ;;
+    --help) echo "$usage" && exit 0 ;;
+    *) echo "$usage" >&2 && exit 2 ;;
+    esac
+done
 cd "$(dirname "$0")/../.."
 . host/tools.sh
 . host/bench/count.sh
@@ -28,7 +32,7 @@ build --package bench
 bench="$programs/bench"
 counts="$CARGO_TARGET_DIR/bench.counts"
 
-$runner "$bench" --list >"$counts.cases"
+$runner "$bench" $rds --list >"$counts.cases"
 all="$(wc -l <"$counts.cases")"
 done=0
 while read -r name; do
@@ -44,4 +48,4 @@ echo >&2
 about
 "${RUSTC:-rustc}" --version
 echo
-$runner "$bench" $quick --instructions "$counts"
+$runner "$bench" $rds $quick --instructions "$counts"

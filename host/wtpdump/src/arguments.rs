@@ -25,12 +25,12 @@ In a capture: Ethernet (with VLAN tags), raw IP, Linux cooked v1 and v2, BSD loo
 Fragments of IP packets and frames that the capture cut short are named and passed over; what isn't UDP is passed over.
 
 switches:
-  --port N   of a capture only datagrams from or to UDP port N; may be repeated (default: all ports)
-  --all      all octets of data (default: the first 32)
-  --rds      each datagram is a frame of the Reliable Data Service: a line for it, and one for each PDU in it
+  --port N         of a capture only datagrams from or to UDP port N; may be repeated (default: all ports)
+  --all            all octets of data (default: the first 32)
+  --rds            each datagram is a frame of the Reliable Data Service: a line for it, and one for each PDU in it
   --sent-by SIDE   who sent the frames: ue, network, or of a capture the UDP port of the network (default: ue)
-  --help     this text
-  --         what follows is no switch
+  --help           this text
+  --               what follows is no switch
 
 A line has the number of the argument, line or frame; in a capture the seconds since the first datagram and both ends;
 which PDU of how many, where octet 0 begins the datagram; its octets in the datagram; and the PDU in words.
