@@ -11,14 +11,16 @@ table in Markdown with the ratios, and first where and how they were made.
   --help   prints this
 
 Instructions are counted by valgrind, or, on a machine that is not x86-64, by qemu-x86_64 with one instruction a block. The
-count of a call is exact: TIMES more calls, divided by TIMES, less an empty call from the same table, counted in the same way."
+count of a call is exact: TIMES more calls, divided by TIMES, less an empty call from the same table, counted in the same way. That of
+host/rds_twin is an average, since it allocates."
 
 quick=""
 rds=""
 times=20
+twins=a_time
 for argument; do
     case "$argument" in
-    --rds) rds=--rds ;;
+    --rds) rds=--rds twins=about_a_time ;;
     --quick) quick=--quick times=10 ;;
     --help) echo "$usage" && exit 0 ;;
     *) echo "$usage" >&2 && exit 2 ;;
@@ -40,7 +42,7 @@ while read -r name; do
     printf '\rcounting: %d of %d cases' "$done" "$all" >&2
     nothing="$(a_time "$times" "$bench" --one "$name" nothing)"
     library="$(a_time "$times" "$bench" --one "$name" library)"
-    twin="$(a_time "$times" "$bench" --one "$name" twin)"
+    twin="$("$twins" "$times" "$bench" --one "$name" twin)"
     printf '%s\t%d\t%d\n' "$name" "$((library - nothing))" "$((twin - nothing))"
 done <"$counts.cases" >"$counts"
 echo >&2
