@@ -8,6 +8,9 @@ pub const READER_PORT: u8 = 3;
 pub const GATEWAY_PORT: u8 = 5;
 pub const APPLICATION: &[u8; 20] = b"\0\0\0\0\0\0\0\0\0\0\0\0\0\0\0\0\x03wtp";
 
+/// The Action of a Release command.
+const RELEASE: u8 = 2;
+
 /// How commands are repeated: after so many milliseconds (T200), so many times (N200).
 #[derive(Debug, Clone, Copy)]
 pub struct Repeats {
@@ -170,5 +173,3 @@ fn line(whose: &str, managed: &Managed, status: &str) -> String {
     let what = if managed.action == RELEASE { "Release" } else { "Reserve" };
     format!("{whose} {what} of our port {} with its port {} was answered: {status}", managed.own, managed.peers)
 }
-
-const RELEASE: u8 = 2;

@@ -3,7 +3,7 @@
 use kit::Random;
 use rds::word;
 
-/// The words that are starts of a part, and the places of an entry's start.
+/// The words that are starts of a part, beside those of the entries.
 const STARTS: [usize; 2] = [word::START, word::APP_START];
 
 /// Place and value of a word at the edge of its range.
@@ -52,9 +52,9 @@ fn move_parts(random: &mut Random, fields: &mut [u64], octets: &mut Vec<u8>) {
     octets.splice(0..0, std::iter::repeat(0x33).take(count));
     let entries = fields.get(word::ENTRIES).map_or(0, |entries| *entries as usize);
     let of_entries = (0..entries).map(|k| word::FIRST_ENTRY + word::ENTRY * k + 2);
-    let lengths = |start: usize, fields: &[u64]| fields[start + 1] > 0 || fields[start] > 0;
+    // No part of a frame starts at 0: a start of 0 is that of a part which the frame hasn't.
     for start in STARTS.into_iter().chain(of_entries) {
-        if lengths(start, fields) {
+        if fields[start] > 0 {
             fields[start] += count as u64;
         }
     }
