@@ -80,6 +80,10 @@ check "scenarios without a file" says 2 "a file of scenarios is missing" scenari
 check "scenarios with a file that isn't there" says 2 "no-such.txt can't be read" scenarios no-such.txt
 check "scenarios names a line that is no command" says 2 "line 2: " scenarios "$(file wrong.txt 'set\nno command\n')"
 check "compare makes so many calls" says 1 "5 calls the same, 0 different" compare --calls=5
+check "wtpdump shows a frame" says 0 "UI, N(U) 3, a datagram of 4 octets, ports 3 to 5" wtpdump --rds --sent-by ue 4B350E000502
+check "wtpdump with a side that there isn't" says 2 '--sent-by must be ue, network or a UDP port, not "x"' wtpdump --rds --sent-by x 40
+check "scenarios plays frames" says 0 "u 4B35AA: ok 0=3" scenarios --rds tests/rds_cases/commands.txt
+check "bench lists the cases of frames" says 0 "tell a port" bench --rds --list
 check "bench lists its cases" says 0 "receive an Ack:48" bench --list
 check "bench makes one call" $runner "$programs/bench" --one request:1 twin 8
 check "bench without a number of times" says 2 "TIMES is missing" bench --one request:1 twin
@@ -192,10 +196,10 @@ check "nothing was handed on" grep -q "frames: 0 datagrams handed on to WTP, 4 m
 check "nothing was sent" grep -q "gateway: 0 datagrams sent" "$work/malformed.log"
 
 echo "signals"
-# interrupted SIGNAL: a reader that waits for an answer is stopped.
+# interrupted SIGNAL ARGUMENTS...: a reader that waits for an answer is stopped.
 interrupted() {
     local status=0
-    $runner "$programs/reader" --gateway "$address" --interval 5000 --csv "$work/$1.csv" host/examples/samplers.csv >"$work/reader" 2>"$work/$1" &
+    $runner "$programs/reader" --gateway "$address" --interval 5000 --csv "$work/$1.csv" "${@:2}" host/examples/samplers.csv >"$work/reader" 2>"$work/$1" &
     local reader=$!
     started+=("$reader")
     waits_for "[1-9] of 10 samplers finished" "$work/$1"
@@ -219,6 +223,10 @@ check "Ctrl-C at the gateway" ended INT second
 check "--quiet" [ "$(wc -l <"$work/second.log")" = 4 ]
 gateway third
 check "SIGTERM at the gateway" ended TERM third
+gateway ports --rds --interval 5000
+check "Ctrl-C at a reader with a port" interrupted INT --rds
+check "which releases it" waits_for "Release of our port 5 with its port 3 was answered: Success" "$work/ports.log"
+check "SIGTERM at its gateway" ended TERM ports
 gateway idle
 sleep 1
 check "a gateway that nobody asks sleeps until its signal" ended TERM idle
