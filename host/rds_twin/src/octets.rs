@@ -64,7 +64,7 @@ impl Writing<'_> {
             }
             Managed::Response { format, status } => {
                 self.octet(action);
-                format.into_iter().for_each(|format| self.octet(*format));
+                format.iter().for_each(|format| self.octet(*format));
                 self.octet(*status);
             }
             Managed::Query { bitmap } => {
