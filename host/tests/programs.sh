@@ -199,6 +199,7 @@ echo "signals"
 # interrupted SIGNAL ARGUMENTS...: a reader that waits for an answer is stopped.
 interrupted() {
     local status=0
+    rm -f "$work/$1"
     $runner "$programs/reader" --gateway "$address" --interval 5000 --csv "$work/$1.csv" "${@:2}" host/examples/samplers.csv >"$work/reader" 2>"$work/$1" &
     local reader=$!
     started+=("$reader")

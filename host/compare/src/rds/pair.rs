@@ -38,12 +38,14 @@ pub struct Pair {
     sides: [Side; 2],
     pub buffers: [Buffers; 2],
     pub tally: Tally,
+    /// The book that the latest call was lent.
+    before: Vec<u8>,
 }
 
 impl Pair {
     /// The library first and the twin second.
     pub fn new(sides: [Side; 2]) -> Pair {
-        Pair { sides, buffers: [Buffers::new(), Buffers::new()], tally: Tally::default() }
+        Pair { sides, buffers: [Buffers::new(), Buffers::new()], tally: Tally::default(), before: Vec::new() }
     }
 
     /// The number that both sides gave, or a difference in words. Output and words are filled anew before the call, so that what
@@ -54,10 +56,10 @@ impl Pair {
             buffers.out.fill(octet);
             buffers.words.fill(word);
         }
-        let before = self.buffers[0].book.clone();
+        self.before.clone_from(&self.buffers[0].book);
         let said = [0, 1].map(|side| asked(self.sides[side], call, &mut self.buffers[side]));
         if said[0].number != said[1].number || self.buffers[0] != self.buffers[1] {
-            return Err(self.told(call, said, &before));
+            return Err(self.told(call, said));
         }
         self.tally.count(call.kind, said[1]);
         Ok(said[0].number)
@@ -71,7 +73,7 @@ impl Pair {
         self.buffers.iter_mut().for_each(|buffers| buffers.book[..BOOK].copy_from_slice(book));
     }
 
-    fn told(&self, call: &Call, said: [Said; 2], before: &[u8]) -> String {
+    fn told(&self, call: &Call, said: [Said; 2]) -> String {
         let number = |said: Said| if said.number == PANIC { "a panic".to_string() } else { said.number.to_string() };
         let mut told = format!("call {}: {call}\n", self.tally.calls + 1);
         let _ = writeln!(told, "  numbers: library {}, twin {}", number(said[0]), number(said[1]));
@@ -82,7 +84,7 @@ impl Pair {
         tell(&mut told, "word", &library.words, &twin.words);
         tell(&mut told, "octet of the output", &library.out, &twin.out);
         tell(&mut told, "octet of the book", &library.book, &twin.book);
-        let kept = before.iter().enumerate().filter(|(_, octet)| **octet != 0);
+        let kept = self.before.iter().enumerate().filter(|(_, octet)| **octet != 0);
         let _ = write!(told, "  the book before, octets that aren't 0:");
         kept.into_iter().for_each(|(at, octet)| told += &format!(" {at}={octet:02X}"));
         told
