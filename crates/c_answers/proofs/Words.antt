@@ -1,9 +1,9 @@
 -- The answer has 32 words, and they tell what was sent, told and shown, so that an abort and a result never look alike. Assumes nothing.
-use Prim.Native.Nat.{ℕ, _≤_}
+use Prim.Native.Nat.{ℕ, _+_, _≤_}
 use mathlib.Core.Path.{_≡_, refl, sym, ap, _∙_}
-use mathlib.Core.List.{List, _++_}
+use mathlib.Core.List.{List, [], _∷_, _++_}
 use native.Mathlib.Omega.{arith}
-use lib.ListN.{length, getD, take, drop, length-append}
+use lib.ListN.{length, getD, take, drop, replicate, length-append}
 use lib.Seq.{take-append-seam, drop-append-seam}
 use Rattle.base_lists.specs.Seq.{put}
 use Rattle.base_lists.proofs.StoresAndParts.{put-append}
@@ -11,7 +11,12 @@ use Rattle.table_record.specs.declared.Role.{Role}
 use Rattle.step_shown.specs.declared.Place.{Place}
 use Rattle.step_shown.specs.declared.Shown.{Shown}
 use Rattle.step_shown.specs.declared.Shown.the-variants as Shown
-use Rattle.step_shown.specs.Words.{shownWords}
+use Rattle.row_columns.specs.declared.Indication.{Indication}
+use Rattle.row_columns.specs.declared.Indication.the-variants as Indication
+use Rattle.step_shown.specs.declared.Context.{Context}
+use Rattle.step_shown.specs.Kinds.{byIndication}
+use Rattle.step_shown.specs.Shows.{shownOf, placeOf}
+use Rattle.step_shown.specs.Words.{shownWords, frontWords, ownWords}
 use Rattle.step_shown.proofs.Back.{same-words-same-shown, twelve-words}
 use Rattle.step_shown.proofs.OwnKind.{abort-no-result}
 use Rattle.step_plan.specs.declared.Told.{Told}
@@ -24,15 +29,38 @@ pub four-stores : (words a b c d : List ℕ) → length a ≡ 4 → length b ≡
 four-stores words a b c d la lb lc =
     rw (put-append a (b ++ (c ++ d)) words 0, la, put-append b (c ++ d), lb, put-append c d, lc)
 
--- what is shown counts as one indication at most
-pub count-le : (s : Shown) → shownCount s ≤ 1
-count-le Shown.Nothing = omega arith
-count-le (Shown.Invoke peer tid class up place) = omega arith
-count-le (Shown.Confirm role peer tid place) = omega arith
-count-le (Shown.Result peer tid place) = omega arith
-count-le (Shown.Abort role peer tid type reason) = omega arith
+-- an indication is one at most, and counts as what it shows does
+pub count-le : (i : Indication) → byIndication 0 1 1 1 1 i ≤ 1
+count-le Indication.Nothing = omega arith
+count-le (Indication.Invoke verified) = omega arith
+count-le (Indication.Confirm acked) = omega arith
+count-le Indication.Result = omega arith
+count-le (Indication.Abort type reason) = omega arith
 
-head-length : (sent : ℕ) (told : Told) (first second : Shown) → length (headWords sent told first second) ≡ 4
+count-shown : (i : Indication) (c : Context) → byIndication 0 1 1 1 1 i ≡ shownCount (shownOf i c)
+unfolding shownOf
+count-shown Indication.Nothing c = refl
+count-shown (Indication.Invoke verified) c = refl
+count-shown (Indication.Confirm acked) c = refl
+count-shown Indication.Result c = refl
+count-shown (Indication.Abort type reason) c = refl
+
+-- no indication shows twelve zeros
+pub none-shown : (i : Indication) (c : Context) → _≡_ {A = ℕ} (byIndication 0 1 1 1 1 i) 0 → replicate 12 0 ≡ shownWords (shownOf i c)
+unfolding shownOf shownWords frontWords ownWords placeOf
+none-shown Indication.Nothing c e = refl
+none-shown (Indication.Invoke verified) c e = absurd (omega arith)
+none-shown (Indication.Confirm acked) c e = absurd (omega arith)
+none-shown Indication.Result c e = absurd (omega arith)
+none-shown (Indication.Abort type reason) c e = absurd (omega arith)
+
+-- the head by the indications is that of what they show
+pub head-shown : (sent : ℕ) (told : Told) (first second : Indication) (c : Context)
+    → sent ∷ (byIndication 0 1 1 1 1 first + byIndication 0 1 1 1 1 second) ∷ toldTid told ∷ toldFired told ∷ [] ≡ headWords sent told (shownOf first c) (shownOf second c)
+unfolding headWords
+head-shown sent told first second c = λ j. sent ∷ (count-shown first c j + count-shown second c j) ∷ toldTid told ∷ toldFired told ∷ []
+
+pub head-length : (sent : ℕ) (told : Told) (first second : Shown) → length (headWords sent told first second) ≡ 4
 unfolding headWords
 head-length sent told first second = refl
 

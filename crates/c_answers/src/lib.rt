@@ -1,25 +1,31 @@
 // The 32 words that the C interface has for the answer of an engine call.
 ghost use mathlib.Core.Path.{_≡_};
-ghost use Prim.Native.Nat.{_≤_, _<_};
+ghost use mathlib.Core.List.{[], _∷_};
+ghost use Prim.Native.Nat.{_+_, _≤_, _<_};
 ghost use lib.ListN.{length};
 ghost use Rattle.base_layout.specs.Layout.{recordsBound};
 ghost use Rattle.base_lists.specs.Seq.{put};
-ghost use Rattle.c_answers.specs.Answers.{shownCount, toldTid, toldFired, headWords, recordWords, answerWords, turnWords};
+ghost use Rattle.step_shown.specs.Kinds.{byIndication};
+ghost use Rattle.step_shown.specs.Shows.{shownOf};
+ghost use Rattle.step_shown.specs.Words.{shownWords};
+ghost use Rattle.c_answers.specs.Answers.{toldTid, toldFired, recordWords, answerWords, turnWords};
+use row_columns::Indication;
 use row_turns::Turn;
 use step_plan::Call;
 use step_plan::Holder;
 use step_plan::Told;
-use step_shown::Shown;
+use step_shown::Context;
 
-fn shown_count(s: Shown) -> u64
-    ensures { λ r. ⌜ r ≡ shownCount s ⌝ }
+// Nothing is no indication, all else is one.
+fn shown_count(i: Indication) -> u64
+    ensures { λ r. ⌜ r ≡ byIndication 0 1 1 1 1 i ⌝ }
 {
-    match s {
-        Shown::Nothing => 0,
-        Shown::Invoke { .. } => 1,
-        Shown::Confirm { .. } => 1,
-        Shown::Result { .. } => 1,
-        Shown::Abort { .. } => 1,
+    match i {
+        Indication::Nothing => 0,
+        Indication::Invoke(_) => 1,
+        Indication::Confirm(_) => 1,
+        Indication::Result => 1,
+        Indication::Abort(_, _) => 1,
     }
 }
 
@@ -44,8 +50,8 @@ fn told_fired(told: Told) -> u64
 }
 
 // Words 0 to 3: octets sent, indications, TID, fired.
-fn head_words(sent: usize, told: Told, first: Shown, second: Shown) -> [u64; 4]
-    ensures { λ r. ⌜ r ≡ headWords sent told first second ⌝ }
+fn head_words(sent: usize, told: Told, first: Indication, second: Indication) -> [u64; 4]
+    ensures { λ r. ⌜ r ≡ sent ∷ (byIndication 0 1 1 1 1 first + byIndication 0 1 1 1 1 second) ∷ toldTid told ∷ toldFired told ∷ [] ⌝ }
 {
     let count = shown_count(first) + shown_count(second);
     [sent as u64, count, told_tid(told), told_fired(told)]
@@ -62,16 +68,36 @@ fn record_words(told: Told) -> [u64; 4]
     }
 }
 
-fn store_answer(answer: &mut [u64], sent: usize, told: Told, first: Shown, second: Shown)
+// The words of what an indication shows; those of none are zeros at once.
+fn store_shown(answer: &mut [u64], at: usize, i: Indication, c: Context)
+    requires { ⌜ at + 12 ≤ length (now answer) ⌝ }
+    ensures { λ _. ⌜ now (answer .exit) ≡ put (now (answer .entry)) at (shownWords (shownOf i c)) ⌝ }
+{
+    if shown_count(i) == 0 {
+        let none = [0u64; 12];
+        base_lists::store_words(answer, at, &none);
+    } else {
+        let s = step_shown::shown_of(i, c);
+        let words = step_shown::words_of(s);
+        base_lists::store_words(answer, at, &words);
+    }
+}
+
+fn store_answer(
+    answer: &mut [u64],
+    sent: usize,
+    told: Told,
+    first: Indication,
+    second: Indication,
+    c: Context,
+)
     requires { ⌜ 32 ≤ length (now answer) ⌝ }
-    ensures { λ _. ⌜ now (answer .exit) ≡ put (now (answer .entry)) 0 (answerWords sent told first second) ⌝ }
+    ensures { λ _. ⌜ now (answer .exit) ≡ put (now (answer .entry)) 0 (answerWords sent told (shownOf first c) (shownOf second c)) ⌝ }
 {
     let head = head_words(sent, told, first, second);
     base_lists::store_words(&mut *answer, 0, &head);
-    let shown_first = step_shown::words_of(first);
-    base_lists::store_words(&mut *answer, 4, &shown_first);
-    let shown_second = step_shown::words_of(second);
-    base_lists::store_words(&mut *answer, 16, &shown_second);
+    store_shown(&mut *answer, 4, first, c);
+    store_shown(&mut *answer, 16, second, c);
     let record = record_words(told);
     base_lists::store_words(answer, 28, &record);
 }
@@ -86,7 +112,5 @@ pub fn give(answer: &mut [u64], sent: usize, turn: Turn, h: Holder, c: Call)
     let tells = c.tells;
     let context = step_plan::context_of(h, c);
     let told = step_plan::told_of(tells, h);
-    let shown_first = step_shown::shown_of(first, context);
-    let shown_second = step_shown::shown_of(second, context);
-    store_answer(answer, sent, told, shown_first, shown_second);
+    store_answer(answer, sent, told, first, second, context);
 }

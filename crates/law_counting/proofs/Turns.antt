@@ -32,13 +32,9 @@ use Rattle.row_turns.specs.declared.Given.{Given}
 use Rattle.row_turns.specs.declared.Turn.{Turn}
 use Rattle.law_rows.specs.Shown.{actAt}
 use Rattle.law_rows.proofs.Range.{allowed, counts-allowed, rcr-within, up-exact}
-use Rattle.law_counting.specs.Counting.{Counts, plus, ofTurn, counted, countsIn, Fits, Limits, Tallied}
+use Rattle.law_counting.specs.Counting.{Counts, plus, ofTurn, counted, countsIn, Fits, Tallied}
 use Rattle.law_counting.proofs.Acts.{added, keptTests, tests, rows-agree, openings-agree}
 use Rattle.law_counting.proofs.Sums.{rcrThen, in-limits, kept-sums, end-limits, from-none}
-
--- what a record says was counted is within the limits
-pub fits-limits : (s : Settings) (r : Record) (c : Counts) → Fits r c → Bounded s r → Limits (s .«rcr_max») c
-fits-limits s r c fits ok = rw fits (in-limits (r .state) (r .rcr .0) (r .«hold_on») (s .«rcr_max») (ok .rcr))
 
 -- RCR goes up only below a maximum of at most 8, so it goes up by one
 rcr-moves : (k : Count) (n : Rcr) (max : ℕ) (aec : Bool) → (n .0 < max → n .0 < 8) → allowed k (ltb (n .0) max) aec ≡ true → rcrAfter k n .0 ≡ rcrThen k (n .0)

@@ -12,11 +12,7 @@ use Rattle.table_record.specs.declared.State.{State}
 use Rattle.table_record.specs.declared.State.the-variants.{Free, IResultWait1, IResultWait2, IResultRespWait, IWaitTimeout, RTidokWait1, RTidokWait2, RInvokeRespWait1, RInvokeRespWait2, RResultWait, RResultRespWait, RWaitTimeout}
 use Rattle.table_layout.specs.Table.{count, recordAt}
 use Rattle.table_record_ok.specs.OneRecord.{Live}
-use Rattle.table_finding.specs.Finding.{namedOf}
-use Rattle.table_finding.specs.declared.Found.the-variants.{At}
-use Rattle.table_finding.proofs.Searches.{named-found}
-use Rattle.law_places.proofs.Places.{live-number}
-use Rattle.law_counting.specs.Counting.{Counts, countsIn, Fits}
+use Rattle.law_counting.specs.Counting.{Counts, countsIn}
 use Rattle.law_history.specs.Trace.{Entry}
 use Rattle.law_history.specs.Tally.{Name, adds, opens, tally}
 use Rattle.law_history.specs.Moves.{nameOf}
@@ -39,13 +35,6 @@ sends-in RInvokeRespWait2 rcr holdOn live role = other-role role
 sends-in RResultWait rcr holdOn live role = other-role role
 sends-in RResultRespWait rcr holdOn live role = other-role role
 sends-in RWaitTimeout rcr holdOn live role = other-role role
-
--- the record that is found under a name says what was counted under it
-pub found-says : (max : ℕ) (t : List ℕ) (h : List Entry) → Inv max t h → (n : Name) (i : ℕ) → namedOf t (count t) (n .role) (n .peer) (n .tid) ≡ At i → Fits (recordAt t i) (tally h n)
-found-says max t h v n i e =
-    let f = named-found t (count t) (n .role) (n .peer) (n .tid) i e in
-    let name : nameOf (recordAt t i) ≡ n = λ j. record { role = f .is-so .role-is j; peer = f .is-so .peer-is j; tid = f .is-so .tid-is j } in
-    rw name at (v .says i (f .below) (live-number (recordAt t i .state) (f .is-so .live)))
 
 module _ (max : ℕ) (t : List ℕ) (h : List Entry) (v : Inv max t h) (i : ℕ) (inside : i < count t) where
   -- "RCR is the number of Invoke, TIDok or Result PDUs sent after the first": of a live initiator record

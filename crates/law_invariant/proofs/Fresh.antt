@@ -1,10 +1,9 @@
 -- A fresh table satisfies the invariant: no record is live and nothing was counted. Assumes nothing.
-use Prim.Native.Nat.{ℕ, _*_}
+use Prim.Native.Nat.{ℕ}
 use native.Mathlib.Omega.{arith}
 use mathlib.Core.Path.{_≡_, refl, ap}
 use mathlib.Core.List.{List, []}
 use lib.ListN.{length, getD}
-use Rattle.base_layout.specs.Layout.{cellSize}
 use Rattle.table_record.specs.Record.{stateNumber}
 use Rattle.table_layout.specs.Table.{count, settingsOf}
 use Rattle.table_layout.specs.declared.Settings.{Settings}
@@ -17,7 +16,7 @@ use Rattle.table_fresh.proofs.Facts.{fresh-facts}
 use Rattle.law_fresh_formed.specs.FreshOk.{FreshOk}
 use Rattle.law_fresh_formed.proofs.Formed.{fresh-ok}
 use Rattle.law_history.specs.Tally.{tally}
-use Rattle.law_invariant.specs.Invariant.{Inv, Sizes}
+use Rattle.law_invariant.specs.Invariant.{Inv}
 
 none-limits : (max : ℕ) → Limits max none
 none-limits max = record { sends = omega arith; resultsSent = omega arith; confirms = omega arith; results = omega arith; aborts = omega arith; shows = omega arith }
@@ -30,9 +29,6 @@ fresh-inv old t first f = record {
   says = λ i inside live. absurd (omega (arith, live, ap stateNumber (f .no-record i)));
   limits = λ n. none-limits (settingsOf t .«rcr_max»);
 }
-
-pub fresh-sizes : (old t s : List ℕ) (first : ℕ) → FreshOk old t first → length s ≡ count t * cellSize → Sizes t s
-fresh-sizes old t s first f cells = record { formed = f .formed; cells = cells }
 
 module _ (old ws : List ℕ) (first : ℕ) (made : freshAnswer (length old) ws first ≡ Made) where
   -- RCR_MAX of a fresh table is its first setting

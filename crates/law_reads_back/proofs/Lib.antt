@@ -5,6 +5,5 @@ pub mod KindMoved
 pub mod KindBack
 pub mod HeaderBack
 pub mod WouldRead
-pub mod TypeRead
 pub mod PartsBack
 pub mod ReadsItself

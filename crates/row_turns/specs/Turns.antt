@@ -131,6 +131,17 @@ movedTo state a r g s rows = record {
   len = lenAfter (a .cell) (r .len) (g .len);
 }
 
+-- 01, "Events": the state that a row leaves, and whether it ends the record
+abbrev pub stateAfter : Next → State → State
+stateAfter Stays was = was
+stateAfter Ends was = Free
+stateAfter (Goes state) was = state
+
+abbrev pub endsBy : Next → Bool
+endsBy Stays = false
+endsBy Ends = true
+endsBy (Goes state) = false
+
 -- the record after a row, free where it ends
 unfoldable pub recordAfter : Next → Act → Record → Given → Settings → List (List ℕ) → Record
 recordAfter Stays a r g s rows = movedTo (r .state) a r g s rows

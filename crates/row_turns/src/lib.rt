@@ -4,8 +4,7 @@ ghost use Prim.Native.Nat.{_≤_};
 ghost use lib.ListN.{length};
 ghost use Rattle.base_layout.specs.Layout.{headerSize, timeBound};
 ghost use Rattle.table_layout.specs.Table.{intervalsOf};
-ghost use Rattle.table_tids.specs.Tids.{intervalOf};
-ghost use Rattle.row_turns.specs.Turns.{upOf, rcrAfter, aecAfter, holdOnAfter, tidokSentAfter, holdOnSentAfter, exitLenAfter, storesExit, lenAfter, noTimer, deadlineAfter, newRecord, movedTo, recordAfter, turnOf};
+ghost use Rattle.row_turns.specs.Turns.{upOf, rcrAfter, aecAfter, holdOnAfter, tidokSentAfter, holdOnSentAfter, exitLenAfter, storesExit, lenAfter, noTimer, deadlineAfter, newRecord, movedTo, stateAfter, endsBy, recordAfter, turnOf};
 use row_columns::Act;
 use row_columns::Cache;
 use row_columns::Count;
@@ -173,19 +172,6 @@ pub fn new_record(peer: u8, tid: u16, user_ack: bool, tidnew: bool) -> Record
     }
 }
 
-// R[RCR] of a class, read where it lies in the table.
-fn interval_of(t: &[u8], class: u8, rcr: Rcr) -> u32
-    requires { ⌜ headerSize ≤ length (now t) ⌝ }
-    ensures { λ v. ⌜ v ≡ intervalOf (intervalsOf (now (t .entry))) class rcr ⌝ }
-{
-    let at = (rcr.0 % 9) as usize * 4;
-    if class == 1 {
-        base_octets::get32(t, base_layout::ROW_1_AT + at)
-    } else {
-        base_octets::get32(t, base_layout::ROW_2_AT + at)
-    }
-}
-
 // The record in its next state.
 fn moved_to(state: State, a: Act, r: Record, g: Given, s: Settings, t: &[u8]) -> Record
     requires { ⌜ (headerSize ≤ length (now t)) × (g .time ≤ timeBound) ⌝ }
@@ -204,7 +190,8 @@ fn moved_to(state: State, a: Act, r: Record, g: Given, s: Settings, t: &[u8]) ->
     let hold_on_sent = hold_on_sent_after(mark, r.hold_on_sent);
     let exit_len = exit_len_after(exit, r.exit_len, g.exit_len);
     let class = table_record::class_of(state);
-    let again = interval_of(t, class, rcr);
+    let rows = table_layout::intervals_of(t);
+    let again = table_tids::interval(rows, class, rcr);
     let deadline = deadline_after(timer, r.deadline, g.time, s, again);
     let len = len_after(a.cell, r.len, g.len);
     Record {
@@ -224,19 +211,38 @@ fn moved_to(state: State, a: Act, r: Record, g: Given, s: Settings, t: &[u8]) ->
     }
 }
 
+fn state_after(n: Next, was: State) -> State
+    ensures { λ r. ⌜ r ≡ stateAfter n was ⌝ }
+{
+    match n {
+        Next::Stays => was,
+        Next::Ends => State::Free,
+        Next::Goes(state) => state,
+    }
+}
+
+fn ends(n: Next) -> bool
+    ensures { λ b. ⌜ b ≡ endsBy n ⌝ }
+{
+    match n {
+        Next::Stays => false,
+        Next::Ends => true,
+        Next::Goes(_) => false,
+    }
+}
+
+// One call of `moved_to`, so that the array of intervals lies on the stack once.
 fn record_after(a: Act, r: Record, g: Given, s: Settings, t: &[u8]) -> Record
     requires { ⌜ (headerSize ≤ length (now t)) × (g .time ≤ timeBound) ⌝ }
     ensures { λ v. ⌜ v ≡ recordAfter (a .next) a r g s (intervalsOf (now (t .entry))) ⌝ }
 {
     let next = a.next;
-    match next {
-        Next::Stays => {
-            let state = r.state;
-            moved_to(state, a, r, g, s, t)
-        }
-        Next::Ends => new_record(0, 0, false, false),
-        Next::Goes(state) => moved_to(state, a, r, g, s, t),
+    if ends(next) {
+        return new_record(0, 0, false, false);
     }
+    let was = r.state;
+    let state = state_after(next, was);
+    moved_to(state, a, r, g, s, t)
 }
 
 // The turn of a record under a row, or of a new record.

@@ -2,7 +2,7 @@
 ghost use mathlib.Core.Path.{_≡_};
 ghost use Prim.Native.Nat.{_≤_, _<_};
 ghost use lib.ListN.{length};
-ghost use lib.Dec.{leb};
+ghost use lib.Dec.{leb, ltb};
 ghost use Rattle.base_layout.specs.Layout.{headerSize, cachedBound, peers};
 ghost use Rattle.base_lists.specs.Seq.{every, pick};
 ghost use Rattle.table_layout.specs.Table.{cachedOf};
@@ -44,44 +44,50 @@ fn spare_ok(t: &[u8]) -> bool
     table_ranges::zero_octets(t, base_layout::HEADER_SPARE_2_AT, SPARE_2_SIZE)
 }
 
-fn rows_ok(t: &[u8]) -> bool
-    requires { ⌜ headerSize ≤ length (now t) ⌝ }
-    ensures { λ r. ⌜ r ≡ every (λ k. interval (intervalAt (now (t .entry)) k)) 18 ⌝ }
+// A mark where the k-th interval is out of range.
+fn outside(t: &[u8], k: usize) -> u32
+    requires { ⌜ (headerSize ≤ length (now t)) × (k < 18) ⌝ }
+    ensures { λ r. ⌜ r ≡ pick (interval (intervalAt (now (t .entry)) k)) 0 1 ⌝ }
 {
-    let mut k = 0;
-    while k < 18 {
-        if !table_ranges::interval_ok(base_octets::get32(t, base_layout::ROW_1_AT + k * 4)) {
-            return false;
-        }
-        k += 1;
-    }
-    true
-}
-
-// A mark where the cached TID of a peer is out of range.
-fn over(t: &[u8], peer: usize) -> u16
-    requires { ⌜ (headerSize ≤ length (now t)) × (peer < peers) ⌝ }
-    ensures { λ r. ⌜ r ≡ pick (leb (cachedOf (now (t .entry)) peer) cachedBound) 0 1 ⌝ }
-{
-    if table_layout::cached_of(t, peer) <= base_layout::CACHED_BOUND {
+    if table_ranges::interval_ok(base_octets::get32(t, base_layout::ROW_1_AT + k * 4)) {
         0
     } else {
         1
     }
 }
 
-// Gathered without an early exit: eight TIDs are tested at once.
+// Gathered without an early exit: four intervals are tested at once.
+fn rows_ok(t: &[u8]) -> bool
+    requires { ⌜ headerSize ≤ length (now t) ⌝ }
+    ensures { λ r. ⌜ r ≡ every (λ k. interval (intervalAt (now (t .entry)) k)) 18 ⌝ }
+{
+    let mut marks = 0u32;
+    let mut k = 0;
+    while k < 18 {
+        marks = marks | outside(t, k);
+        k += 1;
+    }
+    marks == 0
+}
+
+fn larger(a: u16, b: u16) -> u16
+    ensures { λ r. ⌜ r ≡ pick (ltb a b) b a ⌝ }
+{
+    if a < b { b } else { a }
+}
+
+// The largest is sought without an early exit: eight TIDs are looked at at once.
 fn cached_ok(t: &[u8]) -> bool
     requires { ⌜ headerSize ≤ length (now t) ⌝ }
     ensures { λ r. ⌜ r ≡ every (λ peer. leb (cachedOf (now (t .entry)) peer) cachedBound) peers ⌝ }
 {
-    let mut marks = 0u16;
+    let mut most = 0u16;
     let mut peer = 0;
     while peer < base_layout::PEERS {
-        marks = marks | over(t, peer);
+        most = larger(most, table_layout::cached_of(t, peer));
         peer += 1;
     }
-    marks == 0
+    most <= base_layout::CACHED_BOUND
 }
 
 pub fn header_ok(t: &[u8]) -> bool

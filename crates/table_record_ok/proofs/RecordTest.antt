@@ -1,5 +1,5 @@
 -- The test of one record holds exactly when its sentence does. Assumes nothing.
-use mathlib.Core.Path.{_≡_, sym, _∙_}
+use mathlib.Core.Path.{_≡_, _∙_}
 use mathlib.Core.List.{List}
 use mathlib.Core.Bool.{true, false}
 use mathlib.Core.Logic.{_⊎_, inl, inr}
@@ -79,8 +79,3 @@ record-from t s i (inr l) =
 pub live-of : (t : List ℕ) (s : Settings) (i : ℕ) → RecordOk t s i → Live (recordAt t i) → LiveOk t s i
 live-of t s i (inl f) h = absurd (omega (arith, free-state t i f))
 live-of t s i (inr l) h = l
-
--- the octet of a record's state is the number of its state
-pub record-octet : (t : List ℕ) (s : Settings) (i : ℕ) → RecordOk t s i → getD t (base i) 0 ≡ stateNumber (recordAt t i .state)
-record-octet t s i (inl f) = free-octet t i f ∙ sym (free-state t i f)
-record-octet t s i (inr l) = sym (octet-known t i (octet-live t i (l .range .live) .1))

@@ -8,6 +8,7 @@ use crate::start::{self, BEFORE, R_CLASS_1};
 use wtp::ffi;
 
 const NOW: u64 = BEFORE + 1;
+const DUE: u64 = BEFORE + R_CLASS_1;
 const RECORDS: [u8; 3] = [1, 8, 48];
 const TABLE_FULL: u64 = 7;
 
@@ -55,7 +56,7 @@ const CODEC: [&str; 8] = [
 ];
 
 /// The engine's cases, each for every count of records.
-const ENGINE: [&str; 9] = [
+const ENGINE: [&str; 11] = [
     "request",
     "request refused",
     "receive an Invoke",
@@ -65,6 +66,8 @@ const ENGINE: [&str; 9] = [
     "result",
     "timer, none due",
     "timer that fires",
+    "tell the next deadline",
+    "fire a record",
 ];
 
 /// Which cases: those of WTP, or those of the Reliable Data Service.
@@ -166,7 +169,9 @@ fn engine(name: &str, records: u8) -> Result<(Buffers, Call), String> {
         "answer" => (start::last_has_its_result(records)?, answer),
         "result" => (start::responders(size, records)?, result),
         "timer, none due" => (start::initiators(size, records)?, Call::Timer { now: NOW }),
-        _ => (start::last_due_first(records)?, Call::Timer { now: BEFORE + R_CLASS_1 }),
+        "timer that fires" => (start::last_due_first(records)?, Call::Timer { now: DUE }),
+        "tell the next deadline" => (start::last_due_first(records)?, Call::Deadline),
+        _ => (start::last_due_first(records)?, Call::Fire { now: DUE, of: Named { role: 0, tid: last.into() } }),
     })
 }
 
@@ -191,9 +196,9 @@ mod tests {
                 "receive a Result" => (false, 2, 0, 0),
                 "answer" | "result" => (true, 0, 0, 0),
                 "timer, none due" => (false, 0, 0, 0),
-                "timer that fires" => (true, 0, 0, 1),
-                // A refusal leaves the answer of the request before it.
-                "request refused" => (true, 0, last, 0),
+                "timer that fires" | "fire a record" => (true, 0, 0, 1),
+                // A refusal, and a call without an answer, leave the answer of the request before it.
+                "request refused" | "tell the next deadline" => (true, 0, last, 0),
                 other => panic!("no expectation for {other}"),
             };
             assert_eq!(said(case), expected, "{}", case.key());

@@ -36,7 +36,7 @@ fn fresh(records: u64) -> Result<Buffers, String> {
     let mut table = vec![0; ffi::table_bytes(records) as usize];
     accepted("fresh", ffi::fresh(&mut table, &settings(), 0))?;
     let store = vec![0; records as usize * ffi::CELL];
-    Ok(Buffers { table, store, out: vec![0; ffi::SENDING], answer: vec![0; ffi::ANSWER], words: vec![] })
+    Ok(Buffers { table, store, out: vec![0; ffi::SENDING], answer: vec![0; ffi::ANSWER], words: vec![0; ffi::DUE] })
 }
 
 fn request(lent: &mut Buffers, class: u64) -> Result<(), String> {

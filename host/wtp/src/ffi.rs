@@ -85,54 +85,66 @@ macro_rules! engine {
     }};
 }
 
+#[inline]
 pub fn table_bytes(records: u64) -> u64 {
     // SAFETY: no memory is lent.
     unsafe { wtp_table_bytes(records) }
 }
 
+#[inline]
 pub fn fresh(table: &mut [u8], settings: &[u64], first_tid: u64) -> u64 {
     // SAFETY: as in `engine`.
     unsafe { wtp_fresh(table.as_mut_ptr(), table.len(), settings.as_ptr(), settings.len(), first_tid) }
 }
 
+#[inline]
 pub fn request(lent: Lent, now: u64, peer: u64, class: u64, user_ack: u64, data: &[u8]) -> u64 {
     engine!(wtp_request, lent, now, peer, class, user_ack, data.as_ptr(), data.len())
 }
 
+#[inline]
 pub fn answer(lent: Lent, now: u64, of: Record, exit: &[u8]) -> u64 {
     engine!(wtp_answer, lent, now, of.role, of.peer, of.tid, exit.as_ptr(), exit.len())
 }
 
+#[inline]
 pub fn result(lent: Lent, now: u64, of: Record, data: &[u8]) -> u64 {
     engine!(wtp_result, lent, now, of.role, of.peer, of.tid, data.as_ptr(), data.len())
 }
 
+#[inline]
 pub fn abort(lent: Lent, now: u64, of: Record, reason: u8) -> u64 {
     engine!(wtp_abort, lent, now, of.role, of.peer, of.tid, reason)
 }
 
+#[inline]
 pub fn receive(lent: Lent, now: u64, peer: u64, pdu: &[u8]) -> u64 {
     engine!(wtp_receive, lent, now, peer, pdu.as_ptr(), pdu.len())
 }
 
+#[inline]
 pub fn timer(lent: Lent, now: u64) -> u64 {
     engine!(wtp_timer, lent, now)
 }
 
+#[inline]
 pub fn deadline(table: &[u8], due: &mut [u64]) -> u64 {
     // SAFETY: as in `engine`.
     unsafe { wtp_deadline(table.as_ptr(), table.len(), due.as_mut_ptr(), due.len()) }
 }
 
+#[inline]
 pub fn fire(lent: Lent, now: u64, of: Record) -> u64 {
     engine!(wtp_fire, lent, now, of.role, of.peer, of.tid)
 }
 
+#[inline]
 pub fn read(pdu: &[u8], fields: &mut [u64]) -> u64 {
     // SAFETY: as in `engine`.
     unsafe { wtp_read(pdu.as_ptr(), pdu.len(), fields.as_mut_ptr(), fields.len()) }
 }
 
+#[inline]
 pub fn write(fields: &[u64], bytes: &[u8], out: &mut [u8], answer: &mut [u64]) -> u64 {
     // SAFETY: as in `engine`.
     unsafe {
@@ -149,16 +161,19 @@ pub fn write(fields: &[u64], bytes: &[u8], out: &mut [u8], answer: &mut [u64]) -
     }
 }
 
+#[inline]
 pub fn separate(datagram: &[u8], k: u64, part: &mut [u64]) -> u64 {
     // SAFETY: as in `engine`.
     unsafe { wtp_separate(datagram.as_ptr(), datagram.len(), k, part.as_mut_ptr(), part.len()) }
 }
 
+#[inline]
 pub fn read_part(datagram: &[u8], k: u64, fields: &mut [u64]) -> u64 {
     // SAFETY: as in `engine`.
     unsafe { wtp_read_part(datagram.as_ptr(), datagram.len(), k, fields.as_mut_ptr(), fields.len()) }
 }
 
+#[inline]
 pub fn data(datagram: &[u8], store: &[u8], answer: &[u64], k: u64, out: &mut [u8]) -> u64 {
     // SAFETY: as in `engine`.
     unsafe {
@@ -176,6 +191,7 @@ pub fn data(datagram: &[u8], store: &[u8], answer: &[u64], k: u64, out: &mut [u8
     }
 }
 
+#[inline]
 pub fn join(bytes: &[u8], lengths: &[u64], out: &mut [u8], answer: &mut [u64]) -> u64 {
     // SAFETY: as in `engine`.
     unsafe {

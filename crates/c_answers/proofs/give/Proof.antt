@@ -8,6 +8,5 @@ pub give-spec : {M : Type 1} → statement M
 unfolding turnWords
 give-spec =
     tie.close (tie.spec
-    (λ c κs. search needs) (λ c κs. search needs) (λ c κs. search needs) (λ c κs. search needs) (λ c κs. search needs)
-    (λ c. search needs)
-    (λ c. simp (c .before .before .store-answer .ensures, c .before .before .before .before .shown-of2 .ensures, c .before .before .before .before .before .shown-of .ensures, c .before .before .before .before .before .before .told-of .ensures, c .before .before .before .before .before .before .before .context-of .ensures)))
+    (λ c κs. search needs) (λ c κs. search needs) (λ c κs. search needs) (λ c. search needs)
+    (λ c. simp (c .before .before .store-answer .ensures, c .before .before .before .before .told-of .ensures, c .before .before .before .before .before .context-of .ensures)))

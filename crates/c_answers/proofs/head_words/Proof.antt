@@ -1,7 +1,6 @@
 -- `c_answers::head_words` meets its contract. Assumes nothing.
 use native.Mathlib.Omega.{arith}
 use mathlib.Core.Path.{refl}
-use Rattle.c_answers.specs.Answers.{headWords}
 use Rattle.c_answers.proofs.Words.{count-le}
 use borrow.Author.Needs.{needs}
 use Rattle.c_answers.proofs.head_words.Statement.{statement}
@@ -13,7 +12,6 @@ add-count c =
     omega (arith, c .shown-count2 .ensures, c .before .shown-count .ensures, count-le (a .first), count-le (a .second))
 
 pub head-words-spec : {M : Type 1} → statement M
-unfolding headWords
 head-words-spec =
     tie.close (tie.spec
     (λ c κs. search needs) (λ c κs. search needs) add-count (λ c κs. search needs) (λ c κs. search needs)

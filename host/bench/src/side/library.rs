@@ -33,6 +33,14 @@ impl Side for Library {
         ffi::timer(lend(lent), now)
     }
 
+    fn deadline(&self, lent: &mut Buffers) -> u64 {
+        ffi::deadline(&lent.table, &mut lent.words)
+    }
+
+    fn fire(&self, lent: &mut Buffers, now: u64, of: &Named) -> u64 {
+        ffi::fire(lend(lent), now, record(of))
+    }
+
     fn read(&self, lent: &mut Buffers, pdu: &[u8]) -> u64 {
         ffi::read(pdu, &mut lent.words)
     }

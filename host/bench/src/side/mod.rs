@@ -8,8 +8,8 @@ mod twin;
 /// The number that the other end has in every case.
 pub const PEER: u64 = 7;
 
-/// What a call is lent to write to. The codec's calls write `words`: the fields of a PDU or a part of a datagram. A port book is
-/// lent as the table.
+/// What a call is lent to write to. `words` is what a call without an answer writes: the
+/// fields of a PDU, a part of a datagram, the next deadline. A port book is lent as the table.
 #[derive(Clone, PartialEq, Eq)]
 pub struct Buffers {
     pub table: Vec<u8>,
@@ -33,6 +33,8 @@ pub trait Side {
     fn result(&self, _lent: &mut Buffers, _now: u64, _of: &Named, _data: &[u8]) -> u64 { 0 }
     fn receive(&self, _lent: &mut Buffers, _now: u64, _pdu: &[u8]) -> u64 { 0 }
     fn timer(&self, _lent: &mut Buffers, _now: u64) -> u64 { 0 }
+    fn deadline(&self, _lent: &mut Buffers) -> u64 { 0 }
+    fn fire(&self, _lent: &mut Buffers, _now: u64, _of: &Named) -> u64 { 0 }
     fn read(&self, _lent: &mut Buffers, _pdu: &[u8]) -> u64 { 0 }
     fn write(&self, _lent: &mut Buffers, _fields: &[u64], _bytes: &[u8]) -> u64 { 0 }
     fn separate(&self, _lent: &mut Buffers, _datagram: &[u8], _place: u64) -> u64 { 0 }

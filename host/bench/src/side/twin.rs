@@ -29,6 +29,14 @@ impl Side for Twin {
         twin::timer(lend(lent), now).number
     }
 
+    fn deadline(&self, lent: &mut Buffers) -> u64 {
+        twin::deadline(&lent.table, &mut lent.words).number
+    }
+
+    fn fire(&self, lent: &mut Buffers, now: u64, of: &Named) -> u64 {
+        twin::fire(lend(lent), now, of.role, PEER, of.tid).number
+    }
+
     fn read(&self, lent: &mut Buffers, pdu: &[u8]) -> u64 {
         twin::read(pdu, &mut lent.words)
     }
