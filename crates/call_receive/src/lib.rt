@@ -4,6 +4,8 @@ ghost use Prim.Native.Nat.{_+_, _*_, _≤_};
 ghost use lib.ListN.{length};
 ghost use Rattle.base_layout.specs.Layout.{headerSize, recordSize};
 ghost use Rattle.codec_pdu.specs.Brief.{asPdu};
+ghost use Rattle.step_arrivals.specs.Arrivals.{nameOf};
+ghost use Rattle.step_arrivals.specs.declared.Name.the-variants.{Of};
 ghost use Rattle.table_well_formed.specs.WellFormed.{WellFormed};
 ghost use Rattle.call_refusal.specs.Judging.{lowest};
 ghost use Rattle.call_receive.specs.Receives.{wrongLength, receiveTests, keptPart, isValid, arriverOf, takenTurn, openedTurn, unmatchedTurn, namingTurn, receiveTurn};
@@ -179,10 +181,12 @@ fn unmatched(t: &[u8], role: Role, peer: u8, tid: u16, time: u64, s: &[u8], b: B
 // A PDU that names this record.
 fn naming(t: &[u8], role: Role, peer: u8, tid: u16, time: u64, s: &[u8]) -> Arrives
     requires { ⌜ WellFormed (now t) ⌝ }
+    requires { ⌜ nameOf (now s) ≡ Of role tid ⌝ }
     ensures { λ r. ⌜ r ≡ namingTurn (now (t .entry)) role peer tid time (now (s .entry)) ⌝ }
 {
     let b = codec_reading::brief(s);
-    match table_finding::named(t, table_layout::records(t), role, peer as u64, tid as u64) {
+    let rcv = step_arrivals::tid_of(s);
+    match table_finding::receiver(t, table_layout::records(t), role, peer as u64, rcv) {
         Found::At(i) => taken(t, i, time, b),
         Found::Nothing => unmatched(t, role, peer, tid, time, s, b),
     }

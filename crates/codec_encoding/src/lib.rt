@@ -5,6 +5,7 @@ ghost use Prim.Native.Nat.{_+_, _*_, _≤_, _<_};
 ghost use lib.ListN.{length};
 ghost use Rattle.base_lists.specs.Seq.{bit, put};
 ghost use Rattle.codec_encoding.specs.Write.{typeNumber, flagsOf, extraOf, headerOf, three, itemOctets, FitItem, FitKind};
+use base_tids::SendTid;
 use codec_items::Item;
 use codec_pdu::Kind;
 
@@ -83,13 +84,13 @@ fn put_extra(out: &mut [u8], src: &[u8], kind: Kind) -> usize
 }
 
 // Stores the fixed header at the start of the output; the place after it.
-pub fn put_header(out: &mut [u8], src: &[u8], con: bool, kind: Kind, tid: u16) -> usize
+pub fn put_header(out: &mut [u8], src: &[u8], con: bool, kind: Kind, tid: SendTid) -> usize
     requires { ⌜ FitKind (now src) kind ⌝ }
-    requires { ⌜ length (headerOf (now src) con kind tid) ≤ length (now out) ⌝ }
-    ensures { λ r. ⌜ (r ≡ length (headerOf (now (src .entry)) con kind tid)) × (now (out .exit) ≡ put (now (out .entry)) 0 (headerOf (now (src .entry)) con kind tid)) ⌝ }
+    requires { ⌜ length (headerOf (now src) con kind (tid .0)) ≤ length (now out) ⌝ }
+    ensures { λ r. ⌜ (r ≡ length (headerOf (now (src .entry)) con kind (tid .0))) × (now (out .exit) ≡ put (now (out .entry)) 0 (headerOf (now (src .entry)) con kind (tid .0))) ⌝ }
 {
     let first = base_lists::bit(con) * 128 + first_octet(kind);
-    let head = [first, (tid / 256) as u8, (tid % 256) as u8];
+    let head = [first, base_tids::high(tid), base_tids::low(tid)];
     base_lists::store(&mut *out, 0, &head);
     put_extra(out, src, kind)
 }

@@ -6,13 +6,13 @@ use Rattle.codec_pdu.specs.declared.Pdu.{Pdu}
 use Rattle.codec_pdu.specs.Pdu.{infoOf}
 
 unfoldable pub briefOf : Pdu → Brief
-briefOf p = record { kind = p .kind; tid = p .tid; info = infoOf p; start = p .start; len = p .len }
+briefOf p = record { kind = p .kind; tid = record { 0 = p .tid }; info = infoOf p; start = p .start; len = p .len }
 
 -- a PDU that is the same to the engine: its one item is the Info item
 unfoldable pub asPdu : Brief → Pdu
 asPdu b = record {
   kind = b .kind;
-  tid = b .tid;
+  tid = b .tid .0;
   count = 1;
   list = record { identity = 1; long = false; start = b .info .start; len = b .info .len } ∷ [];
   start = b .start;

@@ -4,6 +4,7 @@ ghost use Rattle.codec_pdu.specs.Pdu.{soundOf, bareOf, blankPdu};
 ghost use Rattle.codec_pdu.specs.Brief.{briefOf};
 use base_numbers::Malformed;
 use base_numbers::Refusal;
+use base_tids::RcvTid;
 use codec_items::Info;
 use codec_items::Item;
 
@@ -65,7 +66,7 @@ pub struct Pdu {
 // What the engine takes of a PDU: all but its items, and of these the first Info item.
 pub struct Brief {
     pub kind: Kind,
-    pub tid: u16,
+    pub tid: RcvTid,
     pub info: Info,
     pub start: usize,
     pub len: usize,
@@ -111,7 +112,7 @@ pub fn blank_brief(kind: Kind) -> Brief
 {
     Brief {
         kind: kind,
-        tid: 0,
+        tid: RcvTid(0),
         info: Info { start: 0, len: 0 },
         start: 0,
         len: 0,

@@ -11,6 +11,7 @@ use Rattle.base_numbers.specs.declared.Malformed.the-variants.{D1, D2, D5, D6, 
 use Rattle.base_numbers.specs.declared.Refusal.the-variants.{WrongLength}
 use Rattle.base_numbers.specs.declared.Verdict.{Verdict}
 use Rattle.base_numbers.specs.declared.Verdict.the-variants.{Sound, Bad}
+use Rattle.base_tids.specs.Tids.{receivedTid}
 use Rattle.codec_items.specs.Items.{walkFrom, noItem, noItems}
 use Rattle.codec_items.specs.declared.Item.{Item}
 use Rattle.codec_items.specs.declared.Items.{Items}
@@ -40,7 +41,7 @@ kindOf t f x =
 
 -- no header, for the reason d
 abbrev pub badHead : Malformed → Head
-badHead d = record { kind = Wrong d; con = false; tid = 0; end = 0 }
+badHead d = record { kind = Wrong d; con = false; tid = record { 0 = 0 }; end = 0 }
 
 -- 01: "First octet: CON, four bits of type, three flags; then the TID, high octet first"
 abbrev pub typeOf : List ℕ → ℕ
@@ -50,7 +51,7 @@ abbrev pub goodHead : List ℕ → ℕ → ℕ → ℕ → Head
 goodHead s t x end = record {
   kind = kindOf t (getD s 0 0 % 8) x;
   con = leb 128 (getD s 0 0);
-  tid = getD s 1 0 * 256 + getD s 2 0;
+  tid = receivedTid (getD s 1 0) (getD s 2 0);
   end = end;
 }
 
@@ -74,7 +75,7 @@ headOf s =
 
 -- a PDU of a header and its items, whose user data starts at `start`
 abbrev pub whole : Head → Items → ℕ → ℕ → Pdu
-whole h i start len = record { kind = h .kind; tid = h .tid; count = i .count; list = i .list; start = start; len = len }
+whole h i start len = record { kind = h .kind; tid = h .tid .0; count = i .count; list = i .list; start = start; len = len }
 
 -- what the items' verdict leaves: a fault of theirs; else the user data, or D7 for bytes left after Ack, Abort or Nack
 abbrev pub finishBy : Verdict → List ℕ → Head → Items → Pdu

@@ -1,12 +1,13 @@
 // Reading a PDU (WAP-224, 8.2 and 8.3).
 ghost use mathlib.Core.Path.{_≡_};
-ghost use Prim.Native.Nat.{_≤_, _<_};
+ghost use Prim.Native.Nat.{_≤_};
 ghost use lib.ListN.{length};
 ghost use Rattle.codec_pdu.specs.Brief.{briefOf};
 ghost use Rattle.codec_reading.specs.Read.{kindOf, headOf, longHead, goodHead, badHead, pduOf};
 ghost use Rattle.codec_reading.specs.Brief.{endAfter, infoAfter, wholeBrief, endedBrief, itemsAt};
 use base_numbers::Malformed;
 use base_numbers::Refusal;
+use base_tids::RcvTid;
 use codec_items::Info;
 use codec_pdu::Brief;
 use codec_pdu::Kind;
@@ -15,7 +16,7 @@ use codec_pdu::Kind;
 pub struct Head {
     pub kind: Kind,
     pub con: bool,
-    pub tid: u16,
+    pub tid: RcvTid,
     pub end: usize,
 }
 
@@ -87,19 +88,13 @@ fn kind_of(typ: u8, flags: u8, x: u8) -> Kind
     }
 }
 
-fn wide(x: u8) -> u16
-    ensures { λ r. ⌜ (r ≡ x) × (r < 256) ⌝ }
-{
-    x as u16
-}
-
 fn bad_head(d: Malformed) -> Head
     ensures { λ r. ⌜ r ≡ badHead d ⌝ }
 {
     Head {
         kind: Kind::Wrong(d),
         con: false,
-        tid: 0,
+        tid: RcvTid(0),
         end: 0,
     }
 }
@@ -110,7 +105,7 @@ fn good_head(s: &[u8], typ: u8, x: u8, end: usize) -> Head
     ensures { λ r. ⌜ r ≡ goodHead (now (s .entry)) typ x end ⌝ }
 {
     let h = s[0];
-    let tid = wide(s[1]) * 256 + wide(s[2]);
+    let tid = base_tids::received(s[1], s[2]);
     Head {
         kind: kind_of(typ, h % 8, x),
         con: 128 <= h,
@@ -190,10 +185,11 @@ fn whole(s: &[u8], head: Head, start: usize, len: usize) -> Brief
     ensures { λ r. ⌜ r ≡ wholeBrief (now (s .entry)) head start len ⌝ }
 {
     let kind = head.kind;
+    let tid = head.tid;
     let info = info_after(s, head);
     Brief {
         kind: kind,
-        tid: head.tid,
+        tid: tid,
         info: info,
         start: start,
         len: len,

@@ -6,6 +6,7 @@ ghost use Rattle.base_lists.specs.Seq.{put};
 ghost use Rattle.codec_words.specs.Words.{frontWords, invokeWords, otherWords, itemWords, itemsWords};
 ghost use Rattle.codec_words.specs.Listed.{noneAt, placedAt, countFrom, listFrom, wordsFrom};
 use base_lists::flag;
+use base_tids::RcvTid;
 use codec_items::Got;
 use codec_items::Item;
 use codec_pdu::Brief;
@@ -35,9 +36,10 @@ fn no_item() -> Placed
 }
 
 // Words 0 to 4: type, GTR, TTR, RID, TID.
-fn front_words(kind: Kind, tid: u64) -> [u64; 5]
-    ensures { λ r. ⌜ r ≡ frontWords kind tid ⌝ }
+fn front_words(kind: Kind, rcv: RcvTid) -> [u64; 5]
+    ensures { λ r. ⌜ r ≡ frontWords kind (rcv .0) ⌝ }
 {
+    let tid = rcv.0 as u64;
     match kind {
         Kind::Invoke { gtr, ttr, rid, .. } => [1, flag(gtr), flag(ttr), flag(rid), tid],
         Kind::Result { gtr, ttr, rid } => [2, flag(gtr), flag(ttr), flag(rid), tid],
@@ -152,7 +154,8 @@ pub fn store_fields(fields: &mut [u64], s: &[u8], first: usize, b: Brief)
 {
     let count = store_items(&mut *fields, s, first);
     let kind = b.kind;
-    let front = front_words(kind, b.tid as u64);
+    let tid = b.tid;
+    let front = front_words(kind, tid);
     base_lists::store_words(&mut *fields, 0, &front);
     let invoke = invoke_words(kind);
     base_lists::store_words(&mut *fields, 5, &invoke);

@@ -11,6 +11,7 @@ ghost use Rattle.codec_verdict.specs.Judge.{Writable};
 ghost use Rattle.codec_writing.specs.Writing.{planOf, answerOf, done, written};
 use base_numbers::Malformed;
 use base_numbers::Refusal;
+use base_tids::SendTid;
 use codec_pdu::Kind;
 
 // The length of the PDU that was written; or why none was.
@@ -58,7 +59,8 @@ fn put_said(out: &mut [u8], src: &[u8], words: &[u64], kind: Kind) -> usize
 {
     let n = words[15] as usize;
     let len = words[17] as usize;
-    let items = codec_encoding::put_header(&mut *out, src, 0 < n, kind, (words[4] % 65536) as u16);
+    let tid = SendTid((words[4] % 65536) as u16);
+    let items = codec_encoding::put_header(&mut *out, src, 0 < n, kind, tid);
     let user = put_items(&mut *out, items, src, words, n);
     base_lists::copy(out, user, src, words[16] as usize, len);
     user + len

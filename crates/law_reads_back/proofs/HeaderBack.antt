@@ -43,7 +43,7 @@ types-fit (Refused r) = omega arith
 
 -- the header that is read, which ends at `end`
 abbrev pub headBy : Bool → Kind → ℕ → ℕ → Head
-headBy con k tid end = record { kind = kindBy (kindFault k) k; con = con; tid = tid; end = end }
+headBy con k tid end = record { kind = kindBy (kindFault k) k; con = con; tid = record { 0 = tid }; end = end }
 
 module _ (s : List ℕ) (con : Bool) (k : Kind) (tid : ℕ) (rest : List ℕ) (fits : FitKind s k) where
   abbrev t : ℕ
@@ -63,7 +63,7 @@ module _ (s : List ℕ) (con : Bool) (k : Kind) (tid : ℕ) (rest : List ℕ) (f
       let same : tid / 256 * 256 + tid % 256 ≡ tid = omega arith in
       let kind-is : kindOf t ((bit con * 128 + t * 8 + flagsOf k) % 8) x ≡ kindBy (kindFault k) k =
       ap (λ (f : ℕ). kindOf t f x) (three-is con t (flagsOf k) (types-fit k) (flags-fit s k fits)) ∙ kind-read s k fits in
-      e ∙ (λ i. record { kind = kind-is i; con = con-is con t (flagsOf k) (types-fit k) (flags-fit s k fits) i; tid = same i; end = end })
+      e ∙ (λ i. record { kind = kind-is i; con = con-is con t (flagsOf k) (types-fit k) (flags-fit s k fits) i; tid = record { 0 = same i }; end = end })
 
   -- types 2 and 3, by the tests that are left
   short : eqb t 0 ≡ false → ltb 7 t ≡ false → headOf octets ≡ pick (eqb t 2) (goodHead octets 2 0 3) (pick (eqb t 3) (goodHead octets 3 0 3) (longHead octets))

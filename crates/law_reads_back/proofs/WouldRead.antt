@@ -51,7 +51,7 @@ module _ (s : List ℕ) (p : Pdu) (fits : Fit s p) where
   octets = header ++ (itemsOctets s last its ++ user)
 
   abbrev head : Head
-  head = record { kind = kindAt 4 (p .kind); con = con; tid = p .tid; end = length header }
+  head = record { kind = kindAt 4 (p .kind); con = con; tid = record { 0 = p .tid }; end = length header }
 
   pub few-length : last ≡ false → length its ≡ p .count
   few-length e = length-take-le (p .count) (p .list) (omega (arith, ltb-false 16 (p .count) e, fits .list-full))

@@ -70,7 +70,7 @@ module _ (b : List ℕ) (octets : Octets b) (sound : soundOf (pduOf b .kind) ≡
       let high : getD (cleared b) 1 0 ≡ getD b 1 0 = front 1 (omega arith) ∙ again .high in
       let low : getD (cleared b) 2 0 ≡ getD b 2 0 = front 2 (omega arith) ∙ again .low in
       let end : fixedLength (cleared b) ≡ fixedLength b = rw type-same (kept .1) ∙ again .long in
-      λ i. record { kind = k i; con = con i; tid = high i * 256 + low i; end = end i }
+      λ i. record { kind = k i; con = con i; tid = record { 0 = high i * 256 + low i }; end = end i }
 
   items-same : itemsAfter (cleared b) (header b) ≡ itemsAfter b (header b)
   unfolding itemsAfter cleared

@@ -39,6 +39,26 @@ name-fits s = go (ltb (length s) 3) (ltb (tidOf s) 32768) (eqb (typeOf s) 2) (eq
 pub name-below : (s : List ℕ) (role : Role) (tid : ℕ) → nameOf s ≡ Of role tid → tid < 32768
 name-below s role tid e = rw e at (name-fits s)
 
+-- who is named, is so by three octets or more and by the TID that its peer writes
+abbrev Aimed : List ℕ → Name → Type 0
+Aimed s Nobody = Unit
+Aimed s (Of role tid) = (3 ≤ length s) × (tidOf s < 65536 → tidOf s ≡ rcvTid role tid)
+
+name-aimed : (s : List ℕ) → Aimed s (nameOf s)
+unfolding nameOf
+name-aimed s = go (ltb (length s) 3) refl (ltb (tidOf s) 32768) refl (eqb (typeOf s) 2) (eqb (typeOf s) 1)
+  where
+    go : (a : Bool) → ltb (length s) 3 ≡ a → (b : Bool) → ltb (tidOf s) 32768 ≡ b → (c d : Bool)
+        → Aimed s (pick a Nobody (pick b (pick c Nobody (Of Responder (tidOf s % 32768))) (pick d Nobody (Of Initiator (tidOf s % 32768)))))
+    go true p b q c d = tt
+    go false p true q true d = tt
+    go false p true q false d = (ltb-false _ _ p, λ fits. omega (arith, ltb-true (tidOf s) 32768 q))
+    go false p false q c true = tt
+    go false p false q c false = (ltb-false _ _ p, λ fits. omega (arith, ltb-false (tidOf s) 32768 q))
+
+pub named-aimed : (s : List ℕ) (role : Role) (tid : ℕ) → nameOf s ≡ Of role tid → (3 ≤ length s) × (tidOf s < 65536 → tidOf s ≡ rcvTid role tid)
+named-aimed s role tid e = rw e at (name-aimed s)
+
 low-bits : (tid : ℕ) → tid < 32768 → (tid + 32768) % 32768 ≡ tid
 low-bits tid h = omega arith
 

@@ -25,7 +25,7 @@ HasTid t p = soundOf (p .kind) ≡ true → p .tid ≡ t
 
 -- a sound header has the TID of the octets
 abbrev HeadTid : List ℕ → Head → Type 0
-HeadTid s h = soundOf (h .kind) ≡ true → h .tid ≡ tidOf s
+HeadTid s h = soundOf (h .kind) ≡ true → h .tid .0 ≡ tidOf s
 
 module _ (s : List ℕ) where
   long-tid : HeadTid s (longHead s)
@@ -50,16 +50,16 @@ module _ (s : List ℕ) where
       go false false false false true e = refl
       go false false false false false e = long-tid e
 
-  finish-tid : (h : Head) (i : Items) → HasTid (h .tid) (finished s h i)
+  finish-tid : (h : Head) (i : Items) → HasTid (h .tid .0) (finished s h i)
   unfolding finished blankPdu soundOf
   finish-tid h i = by-verdict (i .verdict)
     where
-      by-kind : (a b : Bool) → HasTid (h .tid) (pick a (pick b (whole h i 0 0) (blankPdu (Wrong D7))) (whole h i (i .end) (length s - i .end)))
+      by-kind : (a b : Bool) → HasTid (h .tid .0) (pick a (pick b (whole h i 0 0) (blankPdu (Wrong D7))) (whole h i (i .end) (length s - i .end)))
       by-kind true true e = refl
       by-kind true false e = true-false (sym e)
       by-kind false b e = refl
 
-      by-verdict : (v : Verdict) → HasTid (h .tid) (finishBy v s h i)
+      by-verdict : (v : Verdict) → HasTid (h .tid .0) (finishBy v s h i)
       by-verdict (Bad d) e = true-false (sym e)
       by-verdict Sound e = by-kind (bareOf (h .kind)) (eqb (length s - i .end) 0) e
 

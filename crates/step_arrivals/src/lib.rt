@@ -1,10 +1,11 @@
 // What a received PDU is to the engine (01, "TIDs" and "Events"): whom it names, which event it is, what it brings.
 ghost use mathlib.Core.Path.{_≡_};
-ghost use Prim.Native.Nat.{_≤_, _<_};
+ghost use Prim.Native.Nat.{_≤_};
 ghost use lib.ListN.{length};
 ghost use Rattle.codec_pdu.specs.Brief.{asPdu};
 ghost use Rattle.step_arrivals.specs.Arrivals.{tidOf, nameOf, eventOf, noCause, causeOf, invokesUs, isTidve, noWant, wantedOf, arrivedOf};
 use base_layout::TID_COUNT;
+use base_tids::RcvTid;
 use codec_pdu::Brief;
 use codec_pdu::Kind;
 use row_choice::Arrived;
@@ -32,18 +33,12 @@ pub struct Wanted {
     pub tidnew: bool,
 }
 
-fn wide(x: u8) -> u16
-    ensures { λ r. ⌜ (r ≡ x) × (r < 256) ⌝ }
-{
-    x as u16
-}
-
 // The TID with its top bit, also of a malformed PDU.
-fn tid_of(s: &[u8]) -> u16
+pub fn tid_of(s: &[u8]) -> RcvTid
     requires { ⌜ 3 ≤ length (now s) ⌝ }
-    ensures { λ r. ⌜ r ≡ tidOf (now (s .entry)) ⌝ }
+    ensures { λ r. ⌜ r .0 ≡ tidOf (now (s .entry)) ⌝ }
 {
-    wide(s[1]) * 256 + wide(s[2])
+    base_tids::received(s[1], s[2])
 }
 
 // Whom the octets name, malformed or not.
@@ -55,16 +50,16 @@ pub fn named_by(s: &[u8]) -> Name
     }
     let typ = s[0] / 8 % 16;
     let tid = tid_of(s);
-    if tid < TID_COUNT {
+    if tid.0 < TID_COUNT {
         if typ == 2 {
             return Name::Nobody;
         }
-        return Name::Of(Role::Responder, tid % TID_COUNT);
+        return Name::Of(Role::Responder, tid.0 % TID_COUNT);
     }
     if typ == 1 {
         return Name::Nobody;
     }
-    Name::Of(Role::Initiator, tid % TID_COUNT)
+    Name::Of(Role::Initiator, tid.0 % TID_COUNT)
 }
 
 // The event that a PDU of this kind is to a live record. A refused length never comes here: it counts as malformed.
@@ -137,17 +132,17 @@ fn invokes_us(s: &[u8]) -> bool
         return false;
     }
     if s[0] / 8 % 16 == 1 {
-        return tid_of(s) < TID_COUNT;
+        return tid_of(s).0 < TID_COUNT;
     }
     false
 }
 
 // Whether a PDU is an Ack with TIDve, top bit 1.
-fn is_tidve(kind: Kind, tid: u16) -> bool
-    ensures { λ r. ⌜ r ≡ isTidve kind tid ⌝ }
+fn is_tidve(kind: Kind, tid: RcvTid) -> bool
+    ensures { λ r. ⌜ r ≡ isTidve kind (tid .0) ⌝ }
 {
     match kind {
-        Kind::Ack { tve, .. } => { if tve { TID_COUNT <= tid } else { false } }
+        Kind::Ack { tve, .. } => { if tve { TID_COUNT <= tid.0 } else { false } }
         Kind::Invoke { .. } => false,
         Kind::Result { .. } => false,
         Kind::Abort { .. } => false,
@@ -207,7 +202,8 @@ pub fn arrived(s: &[u8], b: Brief, full: bool, valid: bool) -> Arrived
 {
     let kind = b.kind;
     let invoke = invokes_us(s);
-    let tidve = is_tidve(kind, b.tid);
+    let tid = b.tid;
+    let tidve = is_tidve(kind, tid);
     let malformed = !codec_pdu::sound(kind);
     let want = wanted_by(kind);
     Arrived {

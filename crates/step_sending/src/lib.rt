@@ -8,6 +8,7 @@ ghost use Rattle.base_lists.specs.Seq.{put};
 ghost use Rattle.row_columns.specs.declared.Send.the-variants.{Invoke, LastAck, Result};
 ghost use Rattle.step_sending.specs.Sending.{tidOf, messageSource, sourceOf};
 ghost use Rattle.step_sending.specs.Octets.{withTid, exitOctets, octetsSent, FitSend};
+use base_tids::SendTid;
 use codec_items::Item;
 use row_columns::Send;
 use table_record::Role;
@@ -33,11 +34,11 @@ pub enum Source {
     Table,
 }
 
-fn tid_of(by: Sender) -> u16
-    ensures { λ r. ⌜ r ≡ tidOf by ⌝ }
+fn tid_of(by: Sender) -> SendTid
+    ensures { λ r. ⌜ r .0 ≡ tidOf by ⌝ }
 {
     let role = by.role;
-    table_record::send_tid(role, by.tid % base_layout::TID_COUNT).0
+    table_record::send_tid(role, by.tid % base_layout::TID_COUNT)
 }
 
 // The first octet and the TID go to the output's start; the place after them.
@@ -47,8 +48,8 @@ fn put_head(out: &mut [u8], first: u8, by: Sender) -> usize
 {
     let tid = tid_of(by);
     out[0] = first;
-    out[1] = (tid / 256) as u8;
-    out[2] = (tid % 256) as u8;
+    out[1] = base_tids::high(tid);
+    out[2] = base_tids::low(tid);
     3
 }
 

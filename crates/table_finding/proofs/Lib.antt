@@ -4,3 +4,4 @@ pub mod Best
 pub mod Tests
 pub mod Searches
 pub mod Earliest
+pub mod Receivers

@@ -1,12 +1,13 @@
 -- Finding a record: by its name, a free one, a TID in use, the due one (01, "Numbers given back" and "Events").
-use Prim.Native.Nat.{ℕ, zero, suc, _+_, _≤_}
+use Prim.Native.Nat.{ℕ, zero, suc, _+_, _%_, _≤_}
 use mathlib.Core.List.{List}
 use mathlib.Core.Bool.{Bool, true, false, not}
 use lib.ListN.{length}
 use lib.Dec.{ltb, leb, eqb}
-use Rattle.base_layout.specs.Layout.{recordSize, base}
+use Rattle.base_layout.specs.Layout.{recordSize, base, tidCount}
 use Rattle.base_lists.specs.Seq.{pick}
-use Rattle.table_record.specs.Record.{roleOf, stateNumber, roleNumber}
+use Rattle.base_tids.specs.declared.RcvTid.{RcvTid}
+use Rattle.table_record.specs.Record.{roleOf, stateNumber, roleNumber, rcvTid}
 use Rattle.table_record.specs.declared.Role.{Role}
 use Rattle.table_record.specs.declared.Role.the-variants.{Initiator}
 use Rattle.table_record.specs.declared.Record.{Record}
@@ -14,7 +15,7 @@ use Rattle.table_layout.specs.Table.{recordAt}
 use Rattle.table_finding.specs.declared.Found.{Found}
 use Rattle.table_finding.specs.declared.Found.the-variants.{At, Nothing}
 use Rattle.table_finding.specs.declared.Sought.{Sought}
-use Rattle.table_finding.specs.declared.Sought.the-variants.{Named, Unused, WithTid}
+use Rattle.table_finding.specs.declared.Sought.the-variants.{Named, Receiver, Unused, WithTid}
 
 -- the lowest of the k places from i on that p holds of
 unfoldable pub first : (ℕ → Bool) → ℕ → ℕ → Found
@@ -34,9 +35,17 @@ isFree r = eqb (stateNumber (r .state)) 0
 unfoldable pub hasRole : Role → Record → Bool
 hasRole role r = pick (isFree r) false (eqb (roleNumber (roleOf (r .state))) (roleNumber role))
 
+-- a live record of this role and peer
+abbrev pub isOf : Role → ℕ → Record → Bool
+isOf role peer r = pick (eqb (r .peer) peer) (hasRole role r) false
+
 -- 01, number 8: "the named role, peer and TID has no live record"
 unfoldable pub isNamed : Role → ℕ → ℕ → Record → Bool
-isNamed role peer tid r = pick (eqb (r .tid) tid) (pick (eqb (r .peer) peer) (hasRole role r) false) false
+isNamed role peer tid r = pick (eqb (r .tid) tid) (isOf role peer r) false
+
+-- 01: "The top bit is 0 towards the responder, 1 towards the initiator": the TID that the peer writes towards a record of this role
+unfoldable pub isReceiver : Role → ℕ → RcvTid → Record → Bool
+isReceiver role peer tid r = pick (eqb (rcvTid role (r .tid % tidCount)) (tid .0)) (isOf role peer r) false
 
 -- 01, number 6: "the TID of a live initiator record, any peer"
 unfoldable pub usesTid : ℕ → Record → Bool
@@ -45,6 +54,7 @@ usesTid tid r = pick (eqb (r .tid) tid) (hasRole Initiator r) false
 -- whether a record is what is looked for
 abbrev pub isSought : Sought → Record → Bool
 isSought (Named role peer tid) r = isNamed role peer tid r
+isSought (Receiver role peer tid) r = isReceiver role peer tid r
 isSought Unused r = isFree r
 isSought (WithTid tid) r = usesTid tid r
 
@@ -55,6 +65,10 @@ found t n what = first (λ (i : ℕ). isSought what (recordAt t i)) n 0
 -- the live record of this role, peer and TID among the n of a table
 unfoldable pub namedOf : List ℕ → ℕ → Role → ℕ → ℕ → Found
 namedOf t n role peer tid = found t n (Named role peer tid)
+
+-- the live record of this role and peer towards which the peer writes this TID
+unfoldable pub receiverOf : List ℕ → ℕ → Role → ℕ → RcvTid → Found
+receiverOf t n role peer tid = found t n (Receiver role peer tid)
 
 -- 01: "takes the lowest free record"
 unfoldable pub freeOf : List ℕ → ℕ → Found

@@ -5,9 +5,10 @@ ghost use lib.ListN.{length};
 ghost use Rattle.base_layout.specs.Layout.{headerSize, recordSize};
 ghost use Rattle.table_record.specs.Record.{stateNumber};
 ghost use Rattle.table_layout.specs.Table.{recordAt};
-ghost use Rattle.table_finding.specs.Finding.{isFound, isFree, hasRole, isNamed, usesTid, isSought, found, namedOf, freeOf, tidInUse, isDue, Within, earlierOf, dueOf};
+ghost use Rattle.table_finding.specs.Finding.{isFound, isFree, hasRole, isOf, isNamed, isReceiver, usesTid, isSought, found, namedOf, receiverOf, freeOf, tidInUse, isDue, Within, earlierOf, dueOf};
 use base_layout::HEADER_SIZE;
 use base_layout::RECORD_SIZE;
+use base_tids::RcvTid;
 use table_record::Role;
 
 // The place of a record, or that there is none.
@@ -26,9 +27,10 @@ pub fn is_found(found: Found) -> bool
     }
 }
 
-// What is looked for: a live record by its name, a free record, a live initiator record by its TID.
+// What is looked for: a live record by its name, one by the TID that its peer writes, a free record, a live initiator record by its TID.
 enum Sought {
     Named(Role, u64, u64),
+    Receiver(Role, u64, RcvTid),
     Unused,
     WithTid(u64),
 }
@@ -61,11 +63,11 @@ fn peer_at(t: &[u8], i: usize) -> u64
     wide(t[HEADER_SIZE + i * RECORD_SIZE + base_layout::PEER_OFFSET])
 }
 
-fn tid_at(t: &[u8], i: usize) -> u64
+fn tid_at(t: &[u8], i: usize) -> u16
     requires { ⌜ headerSize + i * recordSize + recordSize ≤ length (now t) ⌝ }
     ensures { λ r. ⌜ r ≡ recordAt (now (t .entry)) i .tid ⌝ }
 {
-    wide16(base_octets::get16(t, HEADER_SIZE + i * RECORD_SIZE + base_layout::TID_OFFSET))
+    base_octets::get16(t, HEADER_SIZE + i * RECORD_SIZE + base_layout::TID_OFFSET)
 }
 
 fn deadline_at(t: &[u8], i: usize) -> u64
@@ -90,17 +92,38 @@ fn has_role(t: &[u8], i: usize, role: Role) -> bool
     }
 }
 
+// Whether a record is a live one of this role and peer.
+fn is_of(t: &[u8], i: usize, role: Role, peer: u64) -> bool
+    requires { ⌜ headerSize + i * recordSize + recordSize ≤ length (now t) ⌝ }
+    ensures { λ r. ⌜ r ≡ isOf role peer (recordAt (now (t .entry)) i) ⌝ }
+{
+    if peer_at(t, i) == peer {
+        has_role(t, i, role)
+    } else {
+        false
+    }
+}
+
 // The TID is looked at first, since it differs most often.
 fn is_named(t: &[u8], i: usize, role: Role, peer: u64, tid: u64) -> bool
     requires { ⌜ headerSize + i * recordSize + recordSize ≤ length (now t) ⌝ }
     ensures { λ r. ⌜ r ≡ isNamed role peer tid (recordAt (now (t .entry)) i) ⌝ }
 {
-    if tid_at(t, i) == tid {
-        if peer_at(t, i) == peer {
-            has_role(t, i, role)
-        } else {
-            false
-        }
+    if wide16(tid_at(t, i)) == tid {
+        is_of(t, i, role, peer)
+    } else {
+        false
+    }
+}
+
+// The same of the TID that the record's peer writes towards it.
+fn is_receiver(t: &[u8], i: usize, role: Role, peer: u64, tid: RcvTid) -> bool
+    requires { ⌜ headerSize + i * recordSize + recordSize ≤ length (now t) ⌝ }
+    ensures { λ r. ⌜ r ≡ isReceiver role peer tid (recordAt (now (t .entry)) i) ⌝ }
+{
+    let own = table_record::rcv_tid(role, tid_at(t, i) % base_layout::TID_COUNT);
+    if own.0 == tid.0 {
+        is_of(t, i, role, peer)
     } else {
         false
     }
@@ -117,7 +140,7 @@ fn uses_tid(t: &[u8], i: usize, tid: u64) -> bool
     requires { ⌜ headerSize + i * recordSize + recordSize ≤ length (now t) ⌝ }
     ensures { λ r. ⌜ r ≡ usesTid tid (recordAt (now (t .entry)) i) ⌝ }
 {
-    if tid_at(t, i) == tid {
+    if wide16(tid_at(t, i)) == tid {
         has_role(t, i, Role::Initiator)
     } else {
         false
@@ -130,6 +153,7 @@ fn is_sought(t: &[u8], i: usize, what: Sought) -> bool
 {
     match what {
         Sought::Named(role, peer, tid) => is_named(t, i, role, peer, tid),
+        Sought::Receiver(role, peer, tid) => is_receiver(t, i, role, peer, tid),
         Sought::Unused => is_free(t, i),
         Sought::WithTid(tid) => uses_tid(t, i, tid),
     }
@@ -155,6 +179,14 @@ pub fn named(t: &[u8], n: usize, role: Role, peer: u64, tid: u64) -> Found
     ensures { λ r. ⌜ r ≡ namedOf (now (t .entry)) n role peer tid ⌝ }
 {
     search(t, n, Sought::Named(role, peer, tid))
+}
+
+// The live record of this role and peer towards which the peer writes this TID.
+pub fn receiver(t: &[u8], n: usize, role: Role, peer: u64, tid: RcvTid) -> Found
+    requires { ⌜ headerSize + n * recordSize ≤ length (now t) ⌝ }
+    ensures { λ r. ⌜ r ≡ receiverOf (now (t .entry)) n role peer tid ⌝ }
+{
+    search(t, n, Sought::Receiver(role, peer, tid))
 }
 
 // The lowest free record.

@@ -4,6 +4,8 @@ ghost use Prim.Native.Nat.{_+_, _*_, _≤_, _<_};
 ghost use lib.ListN.{length};
 ghost use Rattle.base_layout.specs.Layout.{fieldsSize, tidCount};
 ghost use Rattle.table_record.specs.Record.{roleOf, classOf, stateNumber, stateOf, flagsOf, decoded, octetsOf, sendTid, rcvTid};
+use base_tids::RcvTid;
+use base_tids::SendTid;
 
 // 01, "Events": which end of the transaction a record is.
 pub enum Role {
@@ -26,12 +28,6 @@ pub enum State {
     RResultRespWait,
     RWaitTimeout,
 }
-
-// 01, "TIDs": the TID as we write it towards the peer, its top bit set towards the initiator.
-pub struct SendTid(pub u16);
-
-// 01, "TIDs": the TID as the peer writes it towards us.
-pub struct RcvTid(pub u16);
 
 // 01, "Events": how many Invoke, TIDok or Result PDUs were sent after the first.
 pub struct Rcr(pub u8);
@@ -133,6 +129,7 @@ fn state_of(n: u8) -> State
     }
 }
 
+// The TID that a record of this role and TID writes towards its peer.
 pub fn send_tid(role: Role, tid: u16) -> SendTid
     requires { ⌜ tid < tidCount ⌝ }
     ensures { λ r. ⌜ r .0 ≡ sendTid role tid ⌝ }
@@ -143,6 +140,7 @@ pub fn send_tid(role: Role, tid: u16) -> SendTid
     }
 }
 
+// The TID that its peer writes towards it.
 pub fn rcv_tid(role: Role, tid: u16) -> RcvTid
     requires { ⌜ tid < tidCount ⌝ }
     ensures { λ r. ⌜ r .0 ≡ rcvTid role tid ⌝ }

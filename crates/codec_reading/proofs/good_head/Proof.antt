@@ -6,6 +6,5 @@ use Rattle.codec_reading.proofs.good_head.Tie as tie
 pub good-head-spec : {M : Type 1} → statement M
 good-head-spec =
     tie.close (tie.spec
-    (λ c. search needs) (λ c. search needs) (λ c κs. search needs) (λ c. search needs) (λ c. search needs)
-    (λ c κs. search needs) (λ c. search needs) (λ c κs. search needs)
-    (λ c. simp (c .kind-of .ensures, c .before .wide2 .ensures .0, c .before .before .before .wide .ensures .0)))
+    (λ c. search needs) (λ c. search needs) (λ c. search needs) (λ c κs. search needs) (λ c κs. search needs)
+    (λ c. simp (c .kind-of .ensures, c .before .received .ensures)))

@@ -10,4 +10,4 @@ unfolding arrivedOf asPdu
 arrived-spec =
     tie.close (tie.spec
     (λ c κs. search needs) (λ c κs. search needs) (λ c κs. search needs) (λ c κs. search needs)
-    (λ c. simp (c .before .wanted-by .ensures, c .before .before .sound .ensures, c .before .before .before .is-tidve .ensures, c .before .before .before .before .invokes-us .ensures)))
+    (λ c. simp (c .before .wanted-by .ensures, c .before .before .sound .ensures, c .before .before .before .is-tidve .ensures, c .before .before .before .before .before .invokes-us .ensures)))

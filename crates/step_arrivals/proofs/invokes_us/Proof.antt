@@ -11,5 +11,5 @@ invokes-us-spec =
     tie.close (tie.spec
     (λ c. simp (lt-ltb _ _ (c .if1 .taken)))
     (λ c. search needs) (λ c κs. search needs)
-    (λ c. simp (c .tid-of .ensures, eq-eqb _ _ (c .before .if2 .taken), le-ltb _ _ (c .before .before .before .if1 .left)))
+    (λ c. simp (c .before .tid-of .ensures, eq-eqb _ _ (c .before .before .if2 .taken), le-ltb _ _ (c .before .before .before .before .if1 .left)))
     (λ c. simp (ne-eqb _ _ (c .if2 .left), le-ltb _ _ (c .before .before .if1 .left))))

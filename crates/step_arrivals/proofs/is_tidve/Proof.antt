@@ -10,7 +10,7 @@ is-tidve-spec =
     tie.close (tie.spec
     (λ c. search needs) (λ c. search needs) (λ c. search needs) (λ c. search needs) (λ c. search needs)
     (λ c. search needs) (λ c. search needs) (λ c. search needs) (λ c. search needs)
-    (λ c. simp (c .if1 .taken, c .before .before .kind .given .1))
+    (λ c. simp (c .before .if1 .taken, c .before .before .before .kind .given .1))
     (λ c. simp (c .if1 .left, c .before .before .kind .given .1))
     (λ c. simp (c .enum-told .given .1))
     (λ c. simp (c .enum-told2 .given .1))

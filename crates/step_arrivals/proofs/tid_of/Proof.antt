@@ -8,6 +8,5 @@ pub tid-of-spec : {M : Type 1} → statement M
 unfolding tidOf
 tid-of-spec =
     tie.close (tie.spec
-    (λ c. search needs) (λ c κs. search needs) (λ c. search needs) (λ c. search needs) (λ c κs. search needs)
-    (λ c. search needs)
-    (λ c. simp (c .wide2 .ensures .0, c .before .before .wide .ensures .0)))
+    (λ c. search needs) (λ c. search needs) (λ c κs. search needs)
+    (λ c. simp (c .received .ensures)))

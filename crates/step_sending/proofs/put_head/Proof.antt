@@ -11,7 +11,7 @@ pub put-head-spec : {M : Type 1} → statement M
 unfolding put
 put-head-spec =
     tie.close (tie.spec
+    (λ c κs. search needs) (λ c. search needs) (λ c κs. search needs)
+    (λ c. simp length-set (omega (arith, c .before .before .before .pre)))
     (λ c κs. search needs) (λ c. search needs) (λ c. search needs)
-    (λ c. simp length-set (omega (arith, c .before .before .pre)))
-    (λ c. search needs) (λ c. search needs) (λ c. search needs)
-    (λ c. rw (c .tid-of .ensures) (refl, refl)))
+    (λ c. rw (c .low .ensures, c .before .high .ensures, c .before .before .tid-of .ensures) (refl, refl)))

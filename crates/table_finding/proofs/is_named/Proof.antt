@@ -10,6 +10,5 @@ unfolding isNamed
 is-named-spec =
     tie.close (tie.spec
     (λ c κs. search needs) (λ c κs. search needs) (λ c κs. search needs)
-    (λ c. simp (← (c .has-role .ensures), eq-eqb _ _ (c .before .if2 .taken), ← (c .before .before .peer-at .ensures), eq-eqb _ _ (c .before .before .before .if1 .taken), ← (c .before .before .before .before .tid-at .ensures)))
-    (λ c. simp (ne-eqb _ _ (c .if2 .left), ← (c .before .peer-at .ensures), eq-eqb _ _ (c .before .before .if1 .taken), ← (c .before .before .before .tid-at .ensures)))
-    (λ c. simp (ne-eqb _ _ (c .if1 .left), ← (c .before .tid-at .ensures))))
+    (λ c. simp (← (c .is-of .ensures), eq-eqb _ _ (c .before .if1 .taken), ← (c .before .before .before .tid-at .ensures), ← (c .before .before .wide16 .ensures)))
+    (λ c. simp (ne-eqb _ _ (c .if1 .left), ← (c .before .before .tid-at .ensures), ← (c .before .wide16 .ensures))))

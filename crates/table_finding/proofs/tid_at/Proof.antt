@@ -9,5 +9,5 @@ use Rattle.table_finding.proofs.tid_at.Tie as tie
 pub tid-at-spec : {M : Type 1} → statement M
 tid-at-spec =
     tie.close (tie.spec
-    (λ c. search needs) (λ c. search needs) (λ c. search needs) (λ c κs. search needs) (λ c κs. search needs)
-    (λ c. c .wide16 .ensures ∙ c .before .get16 .ensures ∙ sym (tid-read (now (c .before .before .before .args .t)) (c .before .before .before .args .i))))
+    (λ c. search needs) (λ c. search needs) (λ c. search needs) (λ c κs. search needs)
+    (λ c. c .get16 .ensures ∙ sym (tid-read (now (c .before .before .args .t)) (c .before .before .args .i))))
