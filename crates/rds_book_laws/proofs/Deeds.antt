@@ -3,13 +3,13 @@ use mathlib.Core.Path.{_≡_, refl, sym, ap, _∙_}
 use mathlib.Core.List.{List}
 use mathlib.Core.Bool.{Bool, true, false}
 use mathlib.Core.Logic.{_⊎_, inl, inr}
-use Prim.Native.Nat.{ℕ, _+_, _/_, _%_, _≤_, _<_}
+use Prim.Native.Nat.{ℕ, _/_, _%_, _≤_, _<_}
 use native.Mathlib.Omega.{arith}
 use lib.ListN.{length, getD}
 use lib.Dec.{eqb}
 use lib.Seq.{ext-getD}
 use borrow.Author.Tests.{eqb-true, eqb-false}
-use Rattle.base_lists.specs.Seq.{pick, part, every}
+use Rattle.base_lists.specs.Seq.{pick, part}
 use Rattle.base_lists.proofs.StoresAndParts.{told, both-fst, both-snd, every-at, true-false}
 use Rattle.rds_frame.specs.declared.Kind.{Kind}
 use Rattle.rds_frame.specs.declared.Kind.the-variants as K
@@ -17,12 +17,12 @@ use Rattle.rds_body.specs.declared.Body.{Body}
 use Rattle.rds_body.specs.declared.Body.the-variants as B
 use Rattle.rds_book.specs.Book.{placeOf, appOf, keep, cleared, same}
 use Rattle.rds_rows.specs.declared.Row.{Row}
-use Rattle.rds_rows.specs.declared.Row.the-variants.{R1, R2, R3, R4, R5, R6, R7, R8, R9, R10, R11, R12, R13, R14, R15}
+use Rattle.rds_rows.specs.declared.Row.the-variants.{R1, R2, R3, R4, R5, R10, R11, R12, R13, R14}
 use Rattle.rds_rows.specs.Rows.{common, best, reserveRow, releaseRow, answerRow, eventOf, formatOf}
 use Rattle.rds_turn.specs.declared.Turn.{Turn}
 use Rattle.rds_turn.specs.Turn as T
 use Rattle.rds_receiving.specs.Receiving.{reservation, bookBy}
-use Rattle.rds_book_laws.specs.Formed.{CommandRange, Used, PlaceFormed, IsApp, Formed}
+use Rattle.rds_book_laws.specs.Formed.{CommandRange, PlaceFormed, IsApp, Formed}
 use Rattle.rds_book_laws.proofs.FormedTest.{free-tag}
 use Rattle.rds_book_laws.proofs.FrameFacts.{Asked, BodyFacts}
 
@@ -93,7 +93,7 @@ reserve-cases P false true false false p q r s u = u refl refl refl refl
 reserve-cases P false false taken true p q r s u = r
 reserve-cases P false false taken false p q r s u = s refl
 
-unless : (x y : Bool) → pick x false y ≡ true → y ≡ true
+pub unless : (x y : Bool) → pick x false y ≡ true → y ≡ true
 unless true y h = true-false (sym h)
 unless false y h = h
 

@@ -1,19 +1,18 @@
 -- The test of a well-formed book passes exactly where section 4's sentences hold. Assumes nothing.
-use mathlib.Core.Path.{_≡_, refl, sym, _∙_}
+use mathlib.Core.Path.{_≡_, refl}
 use mathlib.Core.List.{List}
-use mathlib.Core.Bool.{Bool, true, false}
+use mathlib.Core.Bool.{true, false}
 use mathlib.Core.Logic.{_⊎_, inl, inr}
-use Prim.Native.Nat.{ℕ, zero, suc, _+_, _-_, _≤_, _<_}
+use Prim.Native.Nat.{ℕ, zero, suc, _+_, _-_}
 use native.Mathlib.Omega.{arith}
 use native.Mathlib.Nat.{add-zero}
 use lib.ListN.{length, getD}
 use lib.Dec.{leb, eqb}
 use borrow.Author.Tests.{leb-true, eqb-true, eqb-false, le-leb, eq-eqb, ne-eqb}
-use Rattle.base_lists.specs.Seq.{pick, every}
-use Rattle.base_lists.proofs.StoresAndParts.{told, both, both-fst, both-snd, every-at, every-all, true-false}
+use Rattle.base_lists.proofs.StoresAndParts.{told, both-fst, both-snd, every-at, every-all}
 use Rattle.rds_book.specs.declared.Place.{Place}
 use Rattle.rds_book.specs.Book.{bookSize, placeSize, appMost, placeAt, placeOf, appLength, zeros, portFits, isAction, commandFits, fits, appFits, placeOk, wellFormed}
-use Rattle.rds_book_laws.specs.Formed.{PortRange, CommandRange, InRange, Zero, Used, PlaceFormed, Formed}
+use Rattle.rds_book_laws.specs.Formed.{PortRange, CommandRange, InRange, Zero, PlaceFormed, Formed}
 
 zero-of : (b : List ℕ) (at n : ℕ) → zeros b at n ≡ true → Zero b at n
 unfolding zeros

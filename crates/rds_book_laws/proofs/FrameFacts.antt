@@ -1,5 +1,5 @@
 -- What the octets of a frame say of the ports, the Application ID and the format in its body. Assumes nothing.
-use mathlib.Core.Path.{_≡_, refl, sym, ap, _∙_}
+use mathlib.Core.Path.{_≡_, refl, ap}
 use mathlib.Core.List.{List}
 use mathlib.Core.Bool.{Bool, true, false}
 use Prim.Native.Nat.{ℕ, _+_, _-_, _/_, _%_, _≤_, _<_}
@@ -12,7 +12,6 @@ use Rattle.base_lists.specs.Seq.{pick, part}
 use Rattle.rds_lists.specs.Sizes.{informationMost}
 use Rattle.rds_frame.specs.declared.Kind.{Kind}
 use Rattle.rds_frame.specs.declared.Kind.the-variants as K
-use Rattle.rds_frame.specs.declared.Head.{Head}
 use Rattle.rds_frame.specs.Frame.{headOf}
 use Rattle.rds_entries.specs.declared.Entries.{Entries}
 use Rattle.rds_entries.specs.Entries.{applicationLength, walkFrom, noEntry}

@@ -6,14 +6,14 @@ use mathlib.Core.Logic.{_⊎_, inl, inr}
 use Prim.Native.Nat.{ℕ, suc, _+_, _*_, _≤_, _<_}
 use native.Mathlib.Omega.{arith}
 use lib.ListN.{length, getD, replicate, length-replicate, getD-replicate}
-use lib.Dec.{ltb, leb, eqb}
+use lib.Dec.{ltb, eqb}
 use lib.Seq.{getD-append-add}
 use borrow.Author.Tests.{ltb-false, eqb-true, eqb-false}
 use Rattle.base_lists.specs.Seq.{pick, bit}
-use Rattle.base_lists.proofs.StoresAndParts.{told, bit-le, true-false}
+use Rattle.base_lists.proofs.StoresAndParts.{bit-le, true-false}
 use Rattle.rds_reading.specs.Read.{frameOf, soundBody}
 use Rattle.rds_book.specs.declared.Place.{Place}
-use Rattle.rds_book.specs.Book.{bookSize, placeSize, appMost, placeAt, placeOf, appLength, appOf, keep, cleared, wellFormed}
+use Rattle.rds_book.specs.Book.{bookSize, placeSize, appMost, placeAt, placeOf, appOf, keep, cleared, wellFormed}
 use Rattle.rds_turn.specs.declared.Turn.{Turn}
 use Rattle.rds_turn.specs.Turn.{applicationOf}
 use Rattle.rds_lent.specs.Left.{Left, lentWell}
@@ -21,11 +21,11 @@ use Rattle.rds_lent.specs.Asked.{outstanding, isReserved, notNow, outOfRange, i
 use Rattle.rds_ports.specs.Ports.{reserveIn, reserveOf, releaseIn, releaseOf, againIn, againOf, abandonAfter}
 use Rattle.rds_shown.specs.Shown.{freshBook, freshNumber, freshAfter, portIn, portOf}
 use Rattle.rds_receiving.specs.Receiving.{reservation, bookBy, turned, turnIn, receiveFrame, fromPeer, receiveOf}
-use Rattle.rds_book_laws.specs.Formed.{PortRange, CommandRange, InRange, Zero, IsApp, Used, PlaceFormed, Formed, Octets, StaysFormed}
+use Rattle.rds_book_laws.specs.Formed.{PortRange, InRange, Zero, IsApp, Used, PlaceFormed, Formed, Octets, StaysFormed}
 use Rattle.rds_book_laws.proofs.FormedTest.{free-tag, formed-of, of-formed}
 use Rattle.rds_book_laws.proofs.Stores.{app-kept, keep-formed, clear-formed}
 use Rattle.rds_book_laws.proofs.FrameFacts.{body-facts}
-use Rattle.rds_book_laws.proofs.Deeds.{Ours, Deed, still, reserves, frees, gains, ends, loses, command-range, deed}
+use Rattle.rds_book_laws.proofs.Deeds.{Deed, still, reserves, frees, gains, ends, loses, command-range, deed}
 
 -- a place that keeps something keeps an Application ID
 pub used-of : (b : List ℕ) (p : ℕ) → Formed b → p < 16 → 1 ≤ placeOf b p .tag → Used b p
@@ -41,7 +41,7 @@ port-range : (p : ℕ) (x : Place) → 1 ≤ p → PortRange x → InRange p x
 port-range (suc p) x h r = r
 
 -- the tests of `rds_reserve`
-in-range : (own peers : ℕ) → outOfRange own peers ≡ false → (1 ≤ own) × (own ≤ 15) × (peers ≤ 15)
+pub in-range : (own peers : ℕ) → outOfRange own peers ≡ false → (1 ≤ own) × (own ≤ 15) × (peers ≤ 15)
 unfolding outOfRange
 in-range own peers h = go (eqb own 0) refl (ltb 15 own) refl h where
   go : (x : Bool) → eqb own 0 ≡ x → (y : Bool) → ltb 15 own ≡ y → pick x true (pick y true (ltb 15 peers)) ≡ false → (1 ≤ own) × (own ≤ 15) × (peers ≤ 15)
@@ -49,7 +49,7 @@ in-range own peers h = go (eqb own 0) refl (ltb 15 own) refl h where
   go false e true g k = true-false k
   go false e false g k = (omega (arith, eqb-false own 0 e), ltb-false 15 own g, ltb-false 15 peers k)
 
-is-app : (app : List ℕ) → isApp app ≡ true → IsApp app
+pub is-app : (app : List ℕ) → isApp app ≡ true → IsApp app
 unfolding isApp
 is-app app h = go (ltb (length app) 17) (ltb appMost (length app)) refl h where
   go : (x y : Bool) → ltb appMost (length app) ≡ y → pick x false (pick y false (eqb (length app) (17 + getD app 16 0))) ≡ true → IsApp app
@@ -93,7 +93,7 @@ port-fields : (whom : ℕ) (t : Turn) → 1 ≤ whom → whom ≤ 2 → t .peer 
 unfolding reservation
 port-fields whom t h k p f = (h, record { whom = k; own = refl; peer = p; format = f })
 
-port-formed : (b : List ℕ) (whom : ℕ) (t : Turn) (app : List ℕ) → Formed b → 1 ≤ whom → whom ≤ 2 → (1 ≤ t .own) × (t .own < 16) → t .peer ≤ 15 → t .format ≤ 7 → IsApp app → Formed (keep b (t .own) (reservation whom t) app)
+pub port-formed : (b : List ℕ) (whom : ℕ) (t : Turn) (app : List ℕ) → Formed b → 1 ≤ whom → whom ≤ 2 → (1 ≤ t .own) × (t .own < 16) → t .peer ≤ 15 → t .format ≤ 7 → IsApp app → Formed (keep b (t .own) (reservation whom t) app)
 port-formed b whom t app f h k p q r a =
     let x = port-fields whom t h k q r in
     keep-formed b (t .own) (reservation whom t) app f (p .1) (x .0) (port-range (t .own) (reservation whom t) (p .0) (x .1)) a
@@ -118,16 +118,20 @@ turn-deed b s f octet =
     let g = frameOf s (fromPeer b) in
     deed b f s (g .head .ads) (g .body) (g .head .kind) (body-facts s octet (fromPeer b))
 
--- `rds_ports_fresh`
+-- `rds_ports_fresh`: every place is free
+pub fresh-zero : (network : Bool) (formats p : ℕ) → p < 16 → Zero (freshBook network formats) (placeAt p) placeSize
+unfolding freshBook
+fresh-zero network formats p m k h =
+    let e : placeAt p + k ≡ 2 + (p * placeSize + k) = omega arith in
+    rw e (getD-append-add (bit network ∷ formats ∷ []) (replicate 4416 0) (p * placeSize + k) 0 ∙ getD-replicate 4416 (p * placeSize + k) 0 0 (omega arith))
+
 pub fresh-formed : (network : Bool) (formats : ℕ) → formats ≤ 7 → Formed (freshBook network formats)
 unfolding freshBook
 fresh-formed network formats l = record {
   size = omega (arith, length-replicate {A = ℕ} 4416 0);
   side = bit-le network;
   formats = l;
-  places = λ p m. inl (λ k h.
-      let e : placeAt p + k ≡ 2 + (p * placeSize + k) = omega arith in
-      rw e (getD-append-add (bit network ∷ formats ∷ []) (replicate 4416 0) (p * placeSize + k) 0 ∙ getD-replicate 4416 (p * placeSize + k) 0 0 (omega arith)));
+  places = λ p m. inl (fresh-zero network formats p m);
 }
 
 -- PROMISE 6, call by call

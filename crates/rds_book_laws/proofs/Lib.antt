@@ -5,3 +5,4 @@ pub mod Stores
 pub mod FrameFacts
 pub mod Deeds
 pub mod Kept
+pub mod TakenExactly

@@ -1,9 +1,9 @@
 -- What a place that is kept or cleared leaves of the book: that place, every other, and the book's front. Assumes nothing.
-use mathlib.Core.Path.{_≡_, refl, sym, ap, _∙_}
+use mathlib.Core.Path.{_≡_, sym, ap, _∙_}
 use mathlib.Core.List.{List, [], _∷_, _++_}
 use mathlib.Core.Bool.{true, false}
 use mathlib.Core.Logic.{_⊎_, inl, inr}
-use Prim.Native.Nat.{ℕ, _+_, _-_, _*_, _≤_, _<_}
+use Prim.Native.Nat.{ℕ, _+_, _-_, _≤_, _<_}
 use native.Mathlib.Omega.{arith}
 use native.Mathlib.Nat.{add-zero}
 use lib.ListN.{length, getD, take, drop, replicate, length-append, length-drop, length-replicate, getD-replicate, List·getD-append}
@@ -12,11 +12,11 @@ use lib.Seq.{getD-take, getD-drop, getD-append-add, take-append-seam}
 use borrow.Author.Tests.{eqb-true, eqb-false}
 use Rattle.base_lists.specs.Seq.{part, put}
 use Rattle.base_lists.proofs.StoresAndParts.{told, length-put, length-part}
-use Rattle.base_octets.specs.Octets.{Apart, gets}
+use Rattle.base_octets.specs.Octets.{Apart}
 use Rattle.base_octets.proofs.StoredAndRead.{getD-before, getD-after, getD-same, gets-apart, gets-inside, gets-part, apart-rows}
 use Rattle.rds_book.specs.declared.Place.{Place}
 use Rattle.rds_book.specs.Book.{bookSize, placeSize, appMost, placeAt, placeOf, appLength, appOf, placeOctets, keep, free, cleared}
-use Rattle.rds_book_laws.specs.Formed.{InRange, Zero, IsApp, Used, PlaceFormed, Formed}
+use Rattle.rds_book_laws.specs.Formed.{InRange, Zero, IsApp, PlaceFormed, Formed}
 
 -- the Application ID that a place keeps
 pub app-kept : (b : List ℕ) (p : ℕ) → length b ≡ bookSize → p < 16 → appLength b p ≤ appMost → IsApp (appOf b p)

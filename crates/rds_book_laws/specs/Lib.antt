@@ -1,3 +1,4 @@
 pub mod Refusing
 pub mod Answering
 pub mod Formed
+pub mod Taken
