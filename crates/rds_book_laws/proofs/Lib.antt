@@ -6,3 +6,4 @@ pub mod FrameFacts
 pub mod Deeds
 pub mod Kept
 pub mod TakenExactly
+pub mod AnsweredFrames

@@ -2,3 +2,4 @@ pub mod Refusing
 pub mod Answering
 pub mod Formed
 pub mod Taken
+pub mod AnsweredFrame

@@ -15,13 +15,14 @@ use Rattle.rds_reading.specs.Read.{frameOf, soundBody}
 use Rattle.rds_book.specs.Book.{bookSize, placeOf, appOf, keep, cleared, wellFormed}
 use Rattle.rds_turn.specs.declared.Turn.{Turn}
 use Rattle.rds_turn.specs.Turn.{applicationOf}
-use Rattle.rds_lent.specs.Left.{Left, left, sendingLeast, lentWell}
+use Rattle.rds_lent.specs.Left.{Left, left, lentWell}
 use Rattle.rds_lent.specs.Asked.{outstanding, isReserved, notNow, outOfRange, isApp, sending, reserving, releasing}
 use Rattle.rds_ports.specs.Ports.{reserveIn, reserveOf, releaseIn, releaseOf, againIn, againOf, abandonNumber, abandonAfter}
 use Rattle.rds_shown.specs.Shown.{freshBook, freshNumber, freshAfter, portIn, portOf}
 use Rattle.rds_receiving.specs.Receiving.{bookBy, replyOf, turnWords, turned, turnIn, receiveFrame, fromPeer, receiveOf}
 use Rattle.rds_book_laws.specs.Formed.{Octets}
 use Rattle.rds_book_laws.proofs.FormedTest.{free-tag, of-formed}
+use Rattle.rds_book_laws.proofs.AnsweredFrames.{answer-long}
 use Rattle.rds_book_laws.proofs.Kept.{app-of, is-app, in-range, reserved-port, reserving-formed, releasing-formed, turn-deed, fresh-zero, fresh-formed}
 use Rattle.rds_history.specs.History.{Call, leaves, Lends, Entry, History, made, refused, called}
 use Rattle.rds_history.specs.History.Call.{Reserve, Release, Again, Abandon, Receive, Port}
@@ -148,13 +149,6 @@ module _ (b : List ℕ) (h : List Entry) (i : Holds b h) (o a : List ℕ) where
     go false y f = refusing Abandon 1 refl
 
   -- the answer that is long enough has the words of the turn
-  answer-long : lentWell b o a ≡ true → 16 ≤ length a
-  unfolding lentWell
-  answer-long w = go (ltb (length a) 16) refl w where
-    go : (x : Bool) → ltb (length a) 16 ≡ x → pick x false (pick (ltb (length o) sendingLeast) false (wellFormed b)) ≡ true → 16 ≤ length a
-    go true e k = true-false (sym k)
-    go false e k = ltb-false (length a) 16 e
-
   words-of : (n : ℕ) (t : Turn) → 16 ≤ length a → Words (put a 0 (turnWords n t)) t
   unfolding turnWords
   words-of n t l = record {
@@ -174,7 +168,7 @@ module _ (b : List ℕ) (h : List Entry) (i : Holds b h) (o a : List ℕ) where
   receive-goes : (s : List ℕ) → Octets s → After (Receive s) (receiveOf b o a s)
   unfolding receiveOf receiveFrame turned
   receive-goes s octet =
-      either c (lentWell b o a) _ _ (λ w. either c (soundBody (f .body)) _ _ (λ k. took (answer-long w)) (λ k. refusing c 16 refl)) (λ w. refusing c 1 refl) where
+      either c (lentWell b o a) _ _ (λ w. either c (soundBody (f .body)) _ _ (λ k. took (answer-long b o a w)) (λ k. refusing c 16 refl)) (λ w. refusing c 1 refl) where
         c : Call
         c = Receive s
 
