@@ -130,7 +130,7 @@ module _ (s : List ℕ) (network : Bool) (octet : (i : ℕ) → getD s i 0 < 256
   pub head-was : HeadKept s network h
   head-was = head-kept s network octet some-kind
 
-  kept : Kept s (h .kind) (h .ads) (bit (h .ads)) (h .source) (h .destination) (bodyAfter s h)
+  pub kept : Kept s (h .kind) (h .ads) (bit (h .ads)) (h .source) (h .destination) (bodyAfter s h)
   kept = rw (short-body .1) (body-read s octet (h .end) (head-inside s network .0) (short-body .0) (bit (h .ads)) (h .source) (h .destination) (h .ads) (h .kind) sound-body)
 
   abbrev same : Frame

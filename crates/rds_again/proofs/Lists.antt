@@ -51,7 +51,7 @@ module _ (front : List ℕ) (l : List Entry) (f24 : length front ≡ 24) (full :
   abbrev W : List ℕ
   W = front ++ listWords l
 
-  word-at : (k j : ℕ) → k < 15 → j < 5 → word W (24 + 5 * k + j) ≡ getD (entryWords (getD l k noEntry)) j 0
+  pub word-at : (k j : ℕ) → k < 15 → j < 5 → word W (24 + 5 * k + j) ≡ getD (entryWords (getD l k noEntry)) j 0
   unfolding listWords
   word-at k j h g =
       let z : 24 + 5 * k + j ≡ length front + (5 * k + j) = omega (arith, f24) in

@@ -53,11 +53,15 @@ commandFits x = pick (isAction (x .tag)) (pick (leb 1 (x .own)) (pick (leb (x .o
 unfoldable pub fits : ℕ → Place → Bool
 fits p x = pick (eqb p 0) (commandFits x) (portFits x)
 
--- "free places, the place of no command, octets past an Application ID and spare octets are zero"
+-- "the Application ID (17 to 272 octets)", "octets past an Application ID and spare octets are zero"
+unfoldable pub appFits : List ℕ → ℕ → Bool
+appFits b p = pick (leb (appLength b p) appMost) (zeros b (placeAt p + 4 + appLength b p) (appMost - appLength b p)) false
+
+-- "free places, the place of no command .. are zero"
 unfoldable pub placeOk : List ℕ → ℕ → Bool
 placeOk b p =
     pick (eqb (placeOf b p .tag) 0) (zeros b (placeAt p) placeSize)
-    (pick (fits p (placeOf b p)) (zeros b (placeAt p + 4 + appLength b p) (appMost - appLength b p)) false)
+    (pick (fits p (placeOf b p)) (appFits b p) false)
 
 -- section 4: the side is UE or network, the formats are 0 to 7, and each place is in order
 unfoldable pub wellFormed : List ℕ → Bool

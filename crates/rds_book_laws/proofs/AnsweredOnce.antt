@@ -1,5 +1,5 @@
 -- Promise 8, of one frame: every row of a command is event 1 or 3, which is answered; every row of a response is event 2 or 0, which is not. Assumes nothing.
-use mathlib.Core.Path.{_≡_, refl}
+use mathlib.Core.Path.{_≡_, refl, sym}
 use mathlib.Core.List.{List, [], _∷_}
 use mathlib.Core.Bool.{Bool, true, false}
 use Prim.Native.Nat.{ℕ, _+_, _%_, _≤_}
@@ -7,13 +7,17 @@ use native.Mathlib.Omega.{arith}
 use lib.ListN.{length}
 use lib.Dec.{eqb}
 use Rattle.base_lists.specs.Seq.{pick}
+use Rattle.base_lists.proofs.StoresAndParts.{true-false}
 use Rattle.rds_frame.specs.declared.Head.{Head}
-use Rattle.rds_rows.specs.declared.Row.the-variants.{R10, R11, R12, R13}
+use Rattle.rds_book.specs.Book.{placeOf}
+use Rattle.rds_rows.specs.declared.Row.the-variants.{R10, R11, R12, R13, R14}
 use Rattle.rds_rows.specs.Rows.{eventOf, reserveRow, releaseRow, answerRow}
 use Rattle.rds_turn.specs.declared.Turn.{Turn}
+use Rattle.rds_turn.specs.Turn.{quiet, told, errorTurn}
 use Rattle.rds_sending.specs.Sent.{portsOctet, responseOctet, answerFrame, errorFrame}
+use Rattle.rds_lent.specs.Asked.{outstanding}
 use Rattle.rds_receiving.specs.Receiving.{replyOf}
-use Rattle.rds_book_laws.specs.Answering.{SentOne, SentNone}
+use Rattle.rds_book_laws.specs.Answering.{SentOne, SentNone, ErrorRow}
 
 pub reserve-event : (again mine taken none : Bool) → eventOf (reserveRow again mine taken none) ≡ 1
 unfolding reserveRow
@@ -64,3 +68,10 @@ module _ (b : List ℕ) (h : Head) (t : Turn) where
   pub nothing-none : eventOf (t .row) ≡ 0 → SentNone b t h
   unfolding replyOf
   nothing-none e = rw e refl
+
+pub error-row : (b : List ℕ) → ErrorRow b
+unfolding errorTurn outstanding told
+error-row b = record { answers = go (eqb (placeOf b 0 .tag) 0); ports = refl } where
+  go : (z : Bool) → pick z false true ≡ true → pick z quiet (told b R14 256 0 false) .row ≡ R14
+  go true h = true-false (sym h)
+  go false h = refl

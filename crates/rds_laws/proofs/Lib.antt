@@ -1,2 +1,3 @@
 pub mod PutTaken
 pub mod TakenRead
+pub mod FourCalls

@@ -14,7 +14,7 @@ use Rattle.rds_reading.specs.declared.Frame.{Frame}
 use Rattle.rds_words.specs.Words.{kindWords, headWords, bodyWords, entriesWords, listWords, wordsOf}
 use Rattle.rds_words.proofs.EntryWords.{length-entries-words}
 
-length-kind-words : (k : Kind) (a s d : ℕ) → length (kindWords k a s d) ≡ 11
+pub length-kind-words : (k : Kind) (a s d : ℕ) → length (kindWords k a s d) ≡ 11
 unfolding kindWords
 length-kind-words (K.I a ns nr r) e s d = refl
 length-kind-words (K.S a nr r) e s d = refl

@@ -1,0 +1,4 @@
+pub mod History
+pub mod Counted
+pub mod Listed
+pub mod Twice
