@@ -15,7 +15,7 @@ use Rattle.table_layout.specs.Table.{recordAt}
 use Rattle.table_finding.specs.declared.Found.{Found}
 use Rattle.table_finding.specs.declared.Found.the-variants.{At, Nothing}
 use Rattle.table_finding.specs.declared.Sought.{Sought}
-use Rattle.table_finding.specs.declared.Sought.the-variants.{Named, Receiver, Unused, WithTid}
+use Rattle.table_finding.specs.declared.Sought.the-variants.{Named, Unused, WithTid}
 
 -- the lowest of the k places from i on that p holds of
 unfoldable pub first : (ℕ → Bool) → ℕ → ℕ → Found
@@ -54,7 +54,6 @@ usesTid tid r = pick (eqb (r .tid) tid) (hasRole Initiator r) false
 -- whether a record is what is looked for
 abbrev pub isSought : Sought → Record → Bool
 isSought (Named role peer tid) r = isNamed role peer tid r
-isSought (Receiver role peer tid) r = isReceiver role peer tid r
 isSought Unused r = isFree r
 isSought (WithTid tid) r = usesTid tid r
 
@@ -68,7 +67,7 @@ namedOf t n role peer tid = found t n (Named role peer tid)
 
 -- the live record of this role and peer towards which the peer writes this TID
 unfoldable pub receiverOf : List ℕ → ℕ → Role → ℕ → RcvTid → Found
-receiverOf t n role peer tid = found t n (Receiver role peer tid)
+receiverOf t n role peer tid = first (λ (i : ℕ). isReceiver role peer tid (recordAt t i)) n 0
 
 -- 01: "takes the lowest free record"
 unfoldable pub freeOf : List ℕ → ℕ → Found

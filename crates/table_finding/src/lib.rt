@@ -27,10 +27,9 @@ pub fn is_found(found: Found) -> bool
     }
 }
 
-// What is looked for: a live record by its name, one by the TID that its peer writes, a free record, a live initiator record by its TID.
+// What is looked for: a live record by its name, a free record, a live initiator record by its TID.
 enum Sought {
     Named(Role, u64, u64),
-    Receiver(Role, u64, RcvTid),
     Unused,
     WithTid(u64),
 }
@@ -153,7 +152,6 @@ fn is_sought(t: &[u8], i: usize, what: Sought) -> bool
 {
     match what {
         Sought::Named(role, peer, tid) => is_named(t, i, role, peer, tid),
-        Sought::Receiver(role, peer, tid) => is_receiver(t, i, role, peer, tid),
         Sought::Unused => is_free(t, i),
         Sought::WithTid(tid) => uses_tid(t, i, tid),
     }
@@ -181,12 +179,19 @@ pub fn named(t: &[u8], n: usize, role: Role, peer: u64, tid: u64) -> Found
     search(t, n, Sought::Named(role, peer, tid))
 }
 
-// The live record of this role and peer towards which the peer writes this TID.
+// The live record of this role and peer towards which the peer writes this TID. One more case of `Sought` would cost the calls stack.
 pub fn receiver(t: &[u8], n: usize, role: Role, peer: u64, tid: RcvTid) -> Found
     requires { ⌜ headerSize + n * recordSize ≤ length (now t) ⌝ }
     ensures { λ r. ⌜ r ≡ receiverOf (now (t .entry)) n role peer tid ⌝ }
 {
-    search(t, n, Sought::Receiver(role, peer, tid))
+    let mut i = 0;
+    while i < n {
+        if is_receiver(t, i, role, peer, tid) {
+            return Found::At(i);
+        }
+        i += 1;
+    }
+    Found::Nothing
 }
 
 // The lowest free record.

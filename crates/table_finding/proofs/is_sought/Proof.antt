@@ -7,8 +7,7 @@ pub is-sought-spec : {M : Type 1} → statement M
 is-sought-spec =
     tie.close (tie.spec
     (λ c. search needs) (λ c κs. search needs) (λ c. search needs) (λ c κs. search needs) (λ c. search needs)
-    (λ c κs. search needs) (λ c. search needs) (λ c κs. search needs)
+    (λ c κs. search needs)
     (λ c. simp (c .is-named .ensures, c .before .before .what .given .1))
-    (λ c. simp (c .is-receiver .ensures, c .before .before .what2 .given .1))
     (λ c. simp (c .is-free .ensures, c .before .enum-told .given .1))
-    (λ c. simp (c .uses-tid .ensures, c .before .before .what3 .given .1)))
+    (λ c. simp (c .uses-tid .ensures, c .before .before .what2 .given .1)))
