@@ -29,15 +29,19 @@ more() {
     echo "$((many - few))"
 }
 
-# a_time TIMES PROGRAM ARGUMENT...: instructions of each time. A remainder means that the times differ, and so fails.
+# a_time TIMES PROGRAM ARGUMENT...: instructions of each time. A remainder means that the times differ, and fails. Now and then it
+# is the program's start that differs (it reads its memory map), so that it is counted up to three times.
 a_time() {
     local all
-    all="$(more "$@")" || return 1
-    if [ "$((all % $1))" -ne 0 ]; then
-        echo "$*: $1 times more take $all instructions, which isn't the same for each" >&2
-        return 1
-    fi
-    echo "$((all / $1))"
+    for _ in 1 2 3; do
+        all="$(more "$@")" || return 1
+        if [ "$((all % $1))" -eq 0 ]; then
+            echo "$((all / $1))"
+            return
+        fi
+    done
+    echo "$*: $1 times more take $all instructions, which isn't the same for each" >&2
+    return 1
 }
 
 # about_a_time TIMES PROGRAM ARGUMENT...: the same for a program that doesn't take the same each time: the average.
