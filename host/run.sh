@@ -1,7 +1,7 @@
 #!/usr/bin/env bash
 # Builds the proved library where it isn't there, starts a gateway on a free port of loopback, and lets a reader ask it over a
 # line with loss, duplication and delay. Ends with 0 if each sampler has the outcome that host/examples/results.csv says.
-# Arguments go to the reader: host/run.sh --loss 40 --seed 7
+# Arguments go to the reader: host/run.sh --loss 40 --seed 7; with --rds both put their datagrams in frames of the Reliable Data Service.
 set -euo pipefail
 cd "$(dirname "$0")/.."
 case " $* " in *" --help "*) sed -n '2,4s/^# //p' host/run.sh && exit 0 ;; esac
@@ -18,8 +18,11 @@ stop_gateway() {
 }
 trap 'stop_gateway; rm -rf "$work"' EXIT
 
+frames=()
+case " $* " in *" --rds "*) frames=(--rds) ;; esac
+
 # The gateway loses nothing: an Abort is sent once, and where it is lost the outcome truly is no answer.
-$runner "$programs/gateway" --listen 127.0.0.1:0 --duplicate 20 --delay 60 host/examples/results.csv >"$work/gateway.log" 2>&1 &
+$runner "$programs/gateway" --listen 127.0.0.1:0 "${frames[@]}" --duplicate 20 --delay 60 host/examples/results.csv >"$work/gateway.log" 2>&1 &
 gateway=$!
 for _ in $(seq 100); do
     [ -s "$work/gateway.log" ] && break
@@ -43,7 +46,7 @@ $runner "$programs/reader" --gateway "$address" "${faults[@]}" "$@" host/example
 [ "$status" -le 1 ] || exit "$status"
 stop_gateway
 echo
-tail -n 3 "$work/gateway.log"
+tail -n $((3 + ${#frames[@]})) "$work/gateway.log"
 
 # What the laboratory's file says, and what the reader's table shows.
 echo

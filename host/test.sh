@@ -7,7 +7,7 @@ cd "$(dirname "$0")/.."
 . scripts/cases.sh
 
 only_there() {
-    ! grep -rlw unsafe --include='*.rs' host | grep -vxE 'host/(wtp/src/ffi|kit/src/interrupt)\.rs'
+    ! grep -rlw unsafe --include='*.rs' host | grep -vxE 'host/((wtp|rds)/src/ffi|kit/src/interrupt)\.rs'
 }
 check "unsafe only around the library's calls and around signals" only_there
 

@@ -1,5 +1,5 @@
 # What programs over the library need: `compiler` and `runner` for x86-64 code, which elsewhere are a cross compiler and an
-# emulator, and the library itself. Sourced at the repository's root.
+# emulator, and the libraries themselves. Sourced at the repository's root.
 compiler=cc
 runner=""
 
@@ -22,15 +22,20 @@ if [ "$(uname -m)" != x86_64 ]; then
     has "$compiler" "$runner" || fetch gcc-x86-64-linux-gnu libc6-dev-amd64-cross qemu-user
 fi
 
-# library: proves and builds the library where it isn't there or a crate is newer, with a line for each crate that has to be proved.
+# library: both libraries, wtp and rds.
 library() {
-    local archive=target/staticlib/libwtp.a
+    built wtp && built rds
+}
+
+# built NAME: proves and builds a library where it isn't there or a crate is newer, with a line for each crate that has to be proved.
+built() {
+    local archive="target/staticlib/lib$1.a"
     if [ -f "$archive" ] && [ -z "$(find crates crates.txt -newer "$archive" -print -quit)" ]; then
         return
     fi
     mkdir -p target
-    if ! rt staticlib wtp 2>&1 | tee target/library.log | sed -u -n '/^rt:/p' >&2; then
-        echo "the library isn't built: target/library.log says why" >&2
+    if ! rt staticlib "$1" 2>&1 | tee target/library.log | sed -u -n '/^rt:/p' >&2; then
+        echo "the library $1 isn't built: target/library.log says why" >&2
         return 1
     fi
 }

@@ -1,8 +1,9 @@
 #!/usr/bin/env python3
-"""Writes the cases of the Reliable Data Service and what they must give: crates/rds_cases/stdin and stdout.
+"""Writes the cases of the Reliable Data Service and what they must give: tests/rds_cases/commands.txt and expected.txt.
 
-The worked examples 1 to 32 of RDS.md (section 10), each with the words that its row names (section 6 numbers them): nothing
-here is taken from the definitions or the code, so the program's output is compared with a second opinion.
+The worked examples 1 to 32 of docs/RDS.md (section 10), each with the words that its row names (section 6 numbers them), and what
+`rds_write` refuses (section 6): nothing here is taken from the definitions or the code, so what host/scenarios prints is compared
+with a second opinion.
 usage: tests/rds_cases.py [--check]   (--check: only say whether both files are as this script writes them)
 """
 import pathlib
@@ -86,11 +87,42 @@ BACK = {
 PUTS = [
     ((0, 0, 0, 7), '0E000502', '470E000502', 0),
     ((1, 3, 5, 2), '0E000502', '4A350E000502', 3),
-    ((0, 0, 0, 7), '00*1500', '47' + '00' * 1500, 0),
+    ((0, 0, 0, 7), '00*1500,', '47' + '00' * 1500, 0),
     ((0, 0, 0, 7), '', None, 11),
-    ((0, 0, 0, 7), '00*1501', None, 11),
+    ((0, 0, 0, 7), '00*1501,', None, 11),
     ((0, 0, 0, 8), '0E000502', None, 10),
     ((0, 3, 0, 7), '0E000502', None, 10),
+]
+
+
+# section 6, `rds_write`: words, octets, and the frame (None: 16); a frame, each word that can't be, each part that isn't there, and what
+# section 3 refuses
+UI_AA = {KIND: UI, ADS: 1, SOURCE: 3, DESTINATION: 5, NU: 3, LENGTH: 1}
+QUERY = {KIND: U, M: MANAGE_PORT, ACTION: 3, SOME: 1, BITMAP: 32802}
+ASKED = {KIND: U, M: MANAGE_PORT, ACTION: 5, FROM: 3, TO: 5, APP_LENGTH: 20, FORMAT: 3}
+WRITES = [
+    (UI_AA, 'AA', '4B35AA'),
+    (QUERY, '', '700A032280'),
+    (ASKED, A, '700A0535' + A + '03'),
+    *[(UI_AA | {word: 1}, 'AA', None) for word in (ACK, NS, M, ACTION, ENTRIES, 23, 24, 99)],
+    *[(UI_AA | wide, 'AA', None) for wide in ({KIND: 0}, {KIND: 5}, {ADS: 2}, {SOURCE: 16}, {DESTINATION: 16}, {NU: 8})],
+    *[(QUERY | wide, '', None) for wide in ({SOME: 2}, {SOME: 0}, {BITMAP: 65536}, {BITMAP: 1}, {ACTION: 16}, {M: 16}, {RESPONSE: 2})],
+    *[(ASKED | wide, A, None) for wide in ({FROM: 16}, {TO: 16}, {FORMAT: 8}, {ACTION: 1})],
+    (UI_AA | {START: 1, LENGTH: 0}, 'AA', '4B35'),
+    (UI_AA | {START: 1}, 'AA', None),
+    (UI_AA | {START: 2, LENGTH: 0}, 'AA', None),
+    (UI_AA | {START: 2 ** 64 - 1, LENGTH: 2}, 'AA', None),
+    *[(ASKED | {APP_LENGTH: length}, A, None) for length in (0, 16, 19, 21)],
+    (ASKED | {APP: 1}, 'AA' + A, '700A0535' + A + '03'),
+    (ASKED | {ADS: 1}, A, None),
+    (ASKED | {RESPONSE: 1}, A, None),
+    ({KIND: U, M: 2}, '', None),
+    ({KIND: U, M: DISCONNECT, RESPONSE: 1}, '', None),
+    ({KIND: U, M: SET_PARAMETERS, LENGTH: 3}, '000100', '700B000100'),
+    ({KIND: U, M: SET_PARAMETERS, LENGTH: 2}, '000100', None),
+    ({KIND: U, M: MANAGE_PORT, RESPONSE: 1, ACTION: 1, STATUS: 4}, '', None),
+    ({KIND: UI, LENGTH: 1520}, '00*1520,', '40' + '00' * 1520),
+    ({KIND: UI, LENGTH: 1521}, '00*1521,', None),
 ]
 
 
@@ -148,22 +180,22 @@ def free(port):
     return f'q {port}', {}, ''
 
 
-R = '700A0135' + A
-L = '700A0235' + A
-ON_20 = [fresh(), reserve(3, 5, A, R), settled('700A0100', 1, 3, 5, changed=1)]
+RESERVE = '700A0135' + A
+RELEASE = '700A0235' + A
+ON_20 = [fresh(), reserve(3, 5, A, RESERVE), settled('700A0100', 1, 3, 5, changed=1)]
 
 # section 10, "Calls": the line, the words other than 0 (or a refusal), the output
 CALLS = [
-    ('20', [fresh(), reserve(3, 5, A, R), refused(f'r 4 6 0 /{B}', 9), settled('700A0100', 1, 3, 5, changed=1), kept(3, 1, 5, A),
+    ('20', [fresh(), reserve(3, 5, A, RESERVE), refused(f'r 4 6 0 /{B}', 9), settled('700A0100', 1, 3, 5, changed=1), kept(3, 1, 5, A),
             unheard('700A0100'), refused(f'r 3 7 0 /{B}', 9)]),
-    ('21', ON_20 + [release(3, L), unheard('700A0100'), settled('700A0202', 2, 3, 5, status=2, changed=1), free(3), refused('l 3', 8)]),
-    ('22', ON_20 + [release(3, L), settled('700A0201', 2, 3, 5, status=1), kept(3, 1, 5, A), release(3, L),
+    ('21', ON_20 + [release(3, RELEASE), unheard('700A0100'), settled('700A0202', 2, 3, 5, status=2, changed=1), free(3), refused('l 3', 8)]),
+    ('22', ON_20 + [release(3, RELEASE), settled('700A0201', 2, 3, 5, status=1), kept(3, 1, 5, A), release(3, RELEASE),
                     settled('7001', 2, 3, 5, status=256), kept(3, 1, 5, A), free(0)]),
     ('23', [fresh(), answered('740A0124' + A, '740A0100', 1, 4, 2, changed=1), answered('740A0124' + A, '740A0100', 1, 4, 2),
             answered('740A0124' + B, '740A0101', 1, 4, 2, status=1), answered('740A0134' + A, '740A0101', 1, 4, 3, status=1)]),
     ('24', [fresh(), answered('740A0124' + A, '740A0100', 1, 4, 2, changed=1), answered('740A0224' + B, '740A0202', 2, 4, 2, status=2),
             answered('740A0294' + A, '740A0200', 2, 4, 9, changed=1), answered('740A0294' + A, '740A0202', 2, 4, 9, status=2)]),
-    ('25', [fresh(), reserve(3, 5, A, R), answered('740A0163' + A, '740A0101', 1, 3, 6, status=1),
+    ('25', [fresh(), reserve(3, 5, A, RESERVE), answered('740A0163' + A, '740A0101', 1, 3, 6, status=1),
             answered('740A0153' + B, '740A0101', 1, 3, 5, status=1), answered('740A0153' + A, '740A0100', 1, 3, 5, changed=1),
             kept(3, 2, 5, A), settled('700A0100', 1, 3, 5, changed=1), kept(3, 1, 5, A)]),
     ('26', [fresh(), answered('740A0524' + A + '07', '740A050003', 5, 4, 2, status=3),
@@ -175,9 +207,9 @@ CALLS = [
     ('28', [fresh(), unbuilt('740A03', '7401', 10, action=3), unbuilt('7C0724', '7C0142', 7), unheard('7401'), refused('v 700A0104', 16)]),
     ('29', [fresh(formats=3), reserve(3, 0, A, '700A0530' + A + '03', with_format=1), asked('a', '700A0530' + A + '03'),
             settled('700A050200', 5, 3, 0, form=2, changed=1), fresh(), refused(f'r 3 0 1 /{A}', 9)]),
-    ('30', [fresh(), reserve(3, 5, A, R), ('d', {}, ''), refused('d', 8), refused('a', 8), unheard('700A0100'), refused(f'r 0 5 0 /{A}', 10),
+    ('30', [fresh(), reserve(3, 5, A, RESERVE), ('d', {}, ''), refused('d', 8), refused('a', 8), unheard('700A0100'), refused(f'r 0 5 0 /{A}', 10),
             refused(f'r 3 16 0 /{A}', 10), refused(f'r 3 5 0 /{A[:-2]}', 11), refused('q 16', 10)]),
-    ('31', ON_20 + [release(3, L), answered('740A0253' + A, '740A0200', 2, 3, 5, changed=1), answered('740A0153' + A, '740A0101', 1, 3, 5, status=1),
+    ('31', ON_20 + [release(3, RELEASE), answered('740A0253' + A, '740A0200', 2, 3, 5, changed=1), answered('740A0153' + A, '740A0101', 1, 3, 5, status=1),
                     settled('700A0200', 2, 3, 5), answered('740A0153' + A, '740A0100', 1, 3, 5, changed=1)]),
     ('32', [fresh(network=1), reserve(3, 5, A, '740A0135' + A), settled('740A0100', 1, 3, 5, changed=1),
             answered('700A0253' + A, '700A0200', 2, 3, 5, changed=1)]),
@@ -212,11 +244,15 @@ def cases():
             else:
                 back = text_of(bytes.fromhex(BACK.get(octets, octets)))
                 yield line, f': ok{shown(words)}: ok{shown(taken(words))}: ok {back}'
+    yield '# RDS.md, section 6, what rds_write refuses', ''
+    for words, written, octets in WRITES:
+        line = f'w u{shown(words)} /{written}'
+        yield line, ': refused 16' if octets is None else f': ok {text_of(bytes.fromhex(octets))}'
     yield '# RDS.md, section 10, 19', ''
     for numbers, written, octets, last in PUTS:
         line = 'p ' + ' '.join(map(str, numbers)) + f' /{written}'
         if octets is None:
-            yield line, f': refused {last} '
+            yield line, f': refused {last}'
         else:
             yield line, f': ok{shown({0: len(octets) // 2, 12: last})} {text_of(bytes.fromhex(octets))}'
     for n, calls in CALLS:
@@ -230,8 +266,8 @@ def cases():
 
 def main():
     lines = list(cases())
-    folder = pathlib.Path(__file__).resolve().parent.parent / 'crates' / 'rds_cases'
-    texts = {'stdin': ''.join(line + '\n' for line, _ in lines), 'stdout': ''.join(line + result + '\n' for line, result in lines)}
+    folder = pathlib.Path(__file__).resolve().parent / 'rds_cases'
+    texts = {'commands.txt': ''.join(line + '\n' for line, _ in lines), 'expected.txt': ''.join(line + result + '\n' for line, result in lines)}
     if sys.argv[1:] == ['--check']:
         wrong = [name for name, text in texts.items() if (folder / name).read_text() != text]
         print('rds_cases: as written' if not wrong else 'rds_cases: other than written: ' + ', '.join(wrong))

@@ -4,7 +4,7 @@ set -euo pipefail
 cd "$(dirname "$0")/../.."
 . scripts/library.sh
 
-library
+built wtp
 mkdir -p target/examples
 for name in read_pdus transaction; do
     program="target/examples/$name"

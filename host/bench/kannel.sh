@@ -39,7 +39,7 @@ places=("$root/usr/lib/x86_64-linux-gnu" "$root/lib/x86_64-linux-gnu")
 # shared NAME: the library NAME as programs load it. The links for the linker don't lead anywhere in an unpacked package.
 shared() { find "${places[@]}" -maxdepth 1 -name "$1.so.[0-9]*" | sort | head -n 1; }
 
-library
+built wtp
 options=(-std=gnu99 -Wall -Wextra -O2)
 sources=host/bench/kannel
 headers=("$root/usr/include/kannel" "$root/usr/include/x86_64-linux-gnu" "$root/usr/include/libxml2")

@@ -80,6 +80,10 @@ check "scenarios without a file" says 2 "a file of scenarios is missing" scenari
 check "scenarios with a file that isn't there" says 2 "no-such.txt can't be read" scenarios no-such.txt
 check "scenarios names a line that is no command" says 2 "line 2: " scenarios "$(file wrong.txt 'set\nno command\n')"
 check "compare makes so many calls" says 1 "5 calls the same, 0 different" compare --calls=5
+check "wtpdump shows a frame" says 0 "UI, N(U) 3, a datagram of 4 octets, ports 3 to 5" wtpdump --rds --sent-by ue 4B350E000502
+check "wtpdump with a side that there isn't" says 2 '--sent-by must be ue, network or a UDP port, not "x"' wtpdump --rds --sent-by x 40
+check "scenarios plays frames" says 0 "u 4B35AA: ok 0=3" scenarios --rds tests/rds_cases/commands.txt
+check "bench lists the cases of frames" says 0 "tell a port" bench --rds --list
 check "bench lists its cases" says 0 "receive an Ack:48" bench --list
 check "bench makes one call" $runner "$programs/bench" --one request:1 twin 8
 check "bench without a number of times" says 2 "TIMES is missing" bench --one request:1 twin
@@ -140,12 +144,17 @@ check "the port is in use" says 2 "$address can't be used" gateway --listen "$ad
 check "an output that nobody reads" bash -c "$runner '$programs/reader' --gateway '$address' --interval 100 '$one' 2>'$work/pipe' | true
     ! grep panicked '$work/pipe'"
 
-echo "hostile datagrams"
-for octets in '' '\000' '\000\000' '\016\000\005' '\377' "$(head -c 1501 /dev/zero | tr '\0' 'x')" "$(head -c 9000 /dev/zero | tr '\0' 'x')"; do
-    printf "$octets" >"$work/datagram"
+# datagram OCTETS: sends them to the gateway, as printf has them.
+datagram() {
+    printf "$1" >"$work/datagram"
     python3 -c 'import socket, sys
 host, port = sys.argv[1].rsplit(":", 1)
 socket.socket(socket.AF_INET, socket.SOCK_DGRAM).sendto(open(sys.argv[2], "rb").read(), (host, int(port)))' "$address" "$work/datagram"
+}
+
+echo "hostile datagrams"
+for octets in '' '\000' '\000\000' '\016\000\005' '\377' "$(head -c 1501 /dev/zero | tr '\0' 'x')" "$(head -c 9000 /dev/zero | tr '\0' 'x')"; do
+    datagram "$octets"
 done
 for length in 0 1 2 1501 9000; do
     check "a datagram of $length octets" waits_for "a datagram of $length octets was dropped" "$work/first.log"
@@ -184,11 +193,31 @@ stop "$process"
 check "each start was verified once, and no other upload" waits_for "gateway: 2 verifications begun, 6 results confirmed" "$work/restarts.log"
 check "an own address that isn't one" says 2 "isn't an address" reader --from nowhere "$one"
 
+echo "frames of the Reliable Data Service"
+gateway frames --rds --loss 10
+check "a value on a bad line" says 0 "VALUE         NO2 41.2 ug/m3" reader --rds --gateway "$address" --interval 100 --loss 20 --duplicate 20 "$one"
+check "the port was reserved" waits_for "Reserve of our port 5 with its port 3 was answered: Success" "$work/frames.log"
+check "and released" waits_for "Release of our port 5 with its port 3 was answered: Success" "$work/frames.log"
+check "a reader without frames has no answer" says 1 "NO ANSWER     none came" reader --gateway "$address" --interval 20 "$one"
+stop "$process"
+check "nobody is there" says 1 "NO ANSWER     no port is reserved at the gateway" reader --rds --gateway "$address" --interval 20 "$one"
+# An Invoke, each time in a frame that isn't sound, and last in a sound one between ports that aren't reserved.
+gateway malformed --rds
+for octets in '\310\065\016\000\005\002' '\110' '\000\002\016\000\005\002' '\140\003\016\000\005\002' '\110\065\016\000\005\002'; do
+    datagram "$octets"
+done
+check "a frame that isn't for us is dropped" waits_for "a frame of 6 octets was dropped: its ports aren't reserved with each other" "$work/malformed.log"
+stop "$process"
+check "no Invoke was shown" grep -q "gateway: 0 Invokes shown" "$work/malformed.log"
+check "nothing was handed on" grep -q "frames: 0 datagrams handed on to WTP, 4 malformed and dropped, 1 not for us" "$work/malformed.log"
+check "nothing was sent" grep -q "gateway: 0 datagrams sent" "$work/malformed.log"
+
 echo "signals"
-# interrupted SIGNAL: a reader that waits for an answer is stopped.
+# interrupted SIGNAL ARGUMENTS...: a reader that waits for an answer is stopped.
 interrupted() {
     local status=0
-    $runner "$programs/reader" --gateway "$address" --interval 5000 --csv "$work/$1.csv" host/examples/samplers.csv >"$work/reader" 2>"$work/$1" &
+    rm -f "$work/$1"
+    $runner "$programs/reader" --gateway "$address" --interval 5000 --csv "$work/$1.csv" "${@:2}" host/examples/samplers.csv >"$work/reader" 2>"$work/$1" &
     local reader=$!
     started+=("$reader")
     waits_for "[1-9] of 10 samplers finished" "$work/$1"
@@ -212,6 +241,10 @@ check "Ctrl-C at the gateway" ended INT second
 check "--quiet" [ "$(wc -l <"$work/second.log")" = 4 ]
 gateway third
 check "SIGTERM at the gateway" ended TERM third
+gateway ports --rds --interval 5000
+check "Ctrl-C at a reader with a port" interrupted INT --rds
+check "which releases it" waits_for "Release of our port 5 with its port 3 was answered: Success" "$work/ports.log"
+check "SIGTERM at its gateway" ended TERM ports
 gateway idle
 sleep 1
 check "a gateway that nobody asks sleeps until its signal" ended TERM idle

@@ -1,5 +1,5 @@
 #!/usr/bin/env bash
-# Compiles the header as C99 and as C++, and the samples of docs/OUTCOMES.md in C and against the wrapper in Rust, all without
+# Compiles the headers as C99 and as C++, and the samples of docs/OUTCOMES.md in C and against the wrapper in Rust, all without
 # a warning; the last line counts.
 set -euo pipefail
 cd "$(dirname "$0")/../.."
@@ -24,8 +24,10 @@ sample c >"$work/sample.c"
 sample rust >"$work/sample.rs"
 build --package wtp
 strict=(-Wall -Wextra -pedantic -Werror -fsyntax-only -Iinclude)
-check "the header compiles as C99" compiles include/wtp.h "$compiler" -std=c99 "${strict[@]}" -x c
-check "the header compiles as C++" compiles include/wtp.h c++ -std=c++98 "${strict[@]}" -x c++
+for header in wtp rds; do
+    check "$header.h compiles as C99" compiles "include/$header.h" "$compiler" -std=c99 "${strict[@]}" -x c
+    check "$header.h compiles as C++" compiles "include/$header.h" c++ -std=c++98 "${strict[@]}" -x c++
+done
 check "the sample in C compiles" compiles "$work/sample.c" "$compiler" -std=c99 "${strict[@]}"
 check "the sample in Rust compiles" compiles "$work/sample.rs" "${RUSTC:-rustc}" --edition 2021 --crate-type lib --emit metadata \
     --target "$CARGO_BUILD_TARGET" -D warnings --extern "wtp=$programs/libwtp.rlib" --out-dir "$work"

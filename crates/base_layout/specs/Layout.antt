@@ -1,7 +1,7 @@
 -- The sizes, offsets and bounds of the table and of document 01, each once for specs; src/lib.rt has them for code, since these are two languages. docs/TABLE.md shows the octets.
 use Prim.Native.Nat.{ℕ, _+_, _*_}
 
--- docs/TABLE.md: the octets of the header; clock 8, GenTID 2, RCR_MAX 1, AEC_MAX 1, A 4, W 4, two rows of nine intervals of 4, 20 spare, 256 cached TIDs of 2
+-- docs/TABLE.md: the octets of the header; clock 8, GenTID 2, RCR_MAX 1, AEC_MAX 1, A 4, W 4, two rows of nine intervals of 4, 5 spare, TIDnew due 1, 14 spare, 256 cached TIDs of 2
 abbrev pub headerSize : ℕ
 headerSize = 624
 
@@ -43,12 +43,22 @@ row2At = 56
 abbrev pub cachedAt : ℕ
 cachedAt = 112
 
--- docs/TABLE.md: the spare octets of the header, where they begin and how many they are
-abbrev pub headerSpareAt : ℕ
-headerSpareAt = 92
+-- docs/TABLE.md: whether TIDnew is due (02, L2)
+abbrev pub tidnewDueAt : ℕ
+tidnewDueAt = 97
 
-abbrev pub headerSpareSize : ℕ
-headerSpareSize = 20
+-- docs/TABLE.md: the spare octets of the header before and after it, where they begin and how many they are
+abbrev pub headerSpare1At : ℕ
+headerSpare1At = 92
+
+abbrev pub headerSpare1Size : ℕ
+headerSpare1Size = 5
+
+abbrev pub headerSpare2At : ℕ
+headerSpare2At = 98
+
+abbrev pub headerSpare2Size : ℕ
+headerSpare2Size = 14
 
 -- docs/TABLE.md: where a field of a record begins, from the record's begin; the state is its first octet
 abbrev pub peerOffset : ℕ
@@ -144,12 +154,12 @@ cellSize = 1024
 abbrev pub outputLeast : ℕ
 outputLeast = 1028
 
--- 01, "Events": the highest number of a state, and of a record's four flags
+-- 01, "Events": the highest number of a state, and of a record's flags, four and TIDnew (02, L2)
 abbrev pub stateBound : ℕ
 stateBound = 11
 
 abbrev pub flagsBound : ℕ
-flagsBound = 15
+flagsBound = 31
 
 -- 01: "datagram or PDU 1 to 1,500"
 abbrev pub datagramBound : ℕ

@@ -27,7 +27,11 @@ pub const ROW_1_AT: usize = 20;
 
 pub const ROW_2_AT: usize = 56;
 
-pub const HEADER_SPARE_AT: usize = 92;
+pub const HEADER_SPARE_1_AT: usize = 92;
+
+pub const TIDNEW_DUE_AT: usize = 97;
+
+pub const HEADER_SPARE_2_AT: usize = 98;
 
 pub const CACHED_AT: usize = 112;
 
@@ -85,10 +89,10 @@ pub const TABLE_LEAST: usize = HEADER_SIZE + RECORD_SIZE;
 
 pub const TABLE_MOST: usize = HEADER_SIZE + RECORDS_BOUND * RECORD_SIZE;
 
-// 01, "Events": eleven live states, numbered from 1; four flags.
+// 01, "Events": eleven live states, numbered from 1; four flags, and 02, L2, TIDnew.
 pub const STATE_BOUND: u8 = 11;
 
-pub const FLAGS_BOUND: u8 = 15;
+pub const FLAGS_BOUND: u8 = 31;
 
 // 01: "datagram or PDU 1 to 1,500".
 pub const DATAGRAM_BOUND: usize = 1500;

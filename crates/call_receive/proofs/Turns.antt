@@ -17,7 +17,7 @@ use Rattle.step_arrivals.specs.Arrivals.{nameOf, eventOf}
 use Rattle.step_arrivals.specs.declared.Name.{Name}
 use Rattle.step_arrivals.specs.declared.Name.the-variants.{Nobody, Of}
 use Rattle.step_arrivals.proofs.Names.{name-below}
-use Rattle.step_commit.specs.declared.TidChange.the-variants.{Unchanged}
+use Rattle.step_commit.specs.declared.GenTidChange.the-variants.{Unchanged}
 use Rattle.step_plan.specs.Steps.{idleStep}
 use Rattle.step_plan.specs.declared.Call.{Call}
 use Rattle.step_plan.specs.declared.Step.{Step}

@@ -26,7 +26,7 @@ use Rattle.step_arrivals.specs.Arrivals.{nameOf, eventOf, causeOf, wantedOf, ar
 use Rattle.step_arrivals.specs.declared.Name.{Name}
 use Rattle.step_arrivals.specs.declared.Name.the-variants.{Nobody, Of}
 use Rattle.row_turns.specs.declared.Given.{Given}
-use Rattle.step_commit.specs.declared.TidChange.the-variants.{Unchanged}
+use Rattle.step_commit.specs.declared.GenTidChange.the-variants.{Unchanged}
 use Rattle.call_refusal.specs.Judging.{Test, test, lowest, planBy, peerTests}
 use Rattle.step_plan.specs.Steps.{noPart, idleStep}
 use Rattle.step_plan.specs.declared.Part.{Part}
@@ -87,6 +87,7 @@ arriverOf place role peer tid kind = record {
   tid = tid;
   class = wantedOf kind .class;
   up = wantedOf kind .up;
+  tidnew = false;
   len = 0;
 }
 

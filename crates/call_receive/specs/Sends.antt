@@ -5,6 +5,7 @@ use mathlib.Core.Bool.{false}
 use Rattle.table_record.specs.declared.Role.{Role}
 use Rattle.row_columns.specs.declared.Send.{Send}
 use Rattle.step_commit.specs.declared.Change.the-variants as Change
+use Rattle.step_commit.specs.declared.GenTidChange.the-variants as GenTidChange
 use Rattle.step_commit.specs.declared.TidChange.the-variants as TidChange
 use Rattle.step_shown.specs.declared.Shown.the-variants as Shown
 use Rattle.step_plan.specs.declared.Step.{Step}
@@ -18,7 +19,7 @@ pub record OnlySends (step : Step) (time : ℕ) (send : Send) (role : Role) (tid
   pub at-time : step .changes .time ≡ time
   pub no-record : step .changes .change ≡ Change.Nothing
   pub no-exit : step .changes .exit ≡ false
-  pub same-gen-tid : step .changes .«gen_tid» ≡ TidChange.Unchanged
+  pub same-gen-tid : step .changes .«gen_tid» ≡ GenTidChange.Unchanged
   pub same-cached : step .changes .cached ≡ TidChange.Unchanged
   pub no-cell : step .cell ≡ false
   pub none-first : step .first ≡ Shown.Nothing

@@ -15,7 +15,7 @@ use row_events::Opening;
 use row_turns::Given;
 use step_arrivals::Name;
 use step_carrying::Coming;
-use step_commit::TidChange;
+use step_commit::GenTidChange;
 use step_plan::Call;
 use step_plan::Holder;
 use step_plan::Part;
@@ -131,6 +131,7 @@ fn arriver(place: usize, role: Role, peer: u8, tid: u16, kind: Kind) -> Holder
         tid: tid,
         class: want.class,
         up: want.up,
+        tidnew: false,
         len: 0,
     }
 }
@@ -157,7 +158,7 @@ fn opened_by(opening: Opening, h: Holder, time: u64, b: Brief) -> Arrives
         },
         tells: Tells::Nothing,
     };
-    Arrives::Turns(Coming::Opens(opening, h, TidChange::Unchanged), g, c)
+    Arrives::Turns(Coming::Opens(opening, h, GenTidChange::Unchanged), g, c)
 }
 
 // A PDU without a live record.

@@ -9,14 +9,15 @@ use Rattle.base_lists.specs.Seq.{pick}
 use Rattle.base_numbers.specs.declared.Refusal.the-variants.{TooLong, WrongClass, TidInUse, TableFull}
 use Rattle.table_record.specs.Record.{roleOf}
 use Rattle.table_record.specs.declared.Role.the-variants.{Initiator}
-use Rattle.table_layout.specs.Table.{count, genTidOf, recordAt}
+use Rattle.table_layout.specs.Table.{count, genTidOf, recordAt, tidnewDueOf}
 use Rattle.table_record_ok.specs.OneRecord.{Live}
 use Rattle.table_finding.specs.Finding.{isFound, freeOf, tidInUse}
 use Rattle.table_finding.specs.declared.Found.{Found}
 use Rattle.row_choice.specs.Rows.{requestedOf}
-use Rattle.table_tids.specs.Tids.{nextTid}
+use Rattle.table_tids.specs.Tids.{nextTid, carriesTidnew, dueAfter}
 use Rattle.row_turns.specs.declared.Given.{Given}
-use Rattle.step_commit.specs.declared.TidChange.the-variants.{Set}
+use Rattle.step_commit.specs.declared.GenTidChange.{GenTidChange}
+use Rattle.step_commit.specs.declared.GenTidChange.the-variants.{Set}
 use Rattle.call_refusal.specs.Judging.{Test, test, lowest, planBy, placedBy, peerTests}
 use Rattle.call_refusal.specs.declared.Placed.{Placed}
 use Rattle.step_plan.specs.Steps.{noPart}
@@ -64,7 +65,7 @@ requestTests t store output q = entryTests t store output q ++ fullTests (freeOf
 
 -- ---- the step
 
--- the new record: an initiator's, under GenTID
+-- the new record: an initiator's, under GenTID, with TIDnew where that is due
 unfoldable pub requester : List ℕ → ℕ → Request → Holder
 requester t place q = record {
   place = place;
@@ -73,8 +74,13 @@ requester t place q = record {
   tid = genTidOf t;
   class = q .class % 256;
   up = q .«user_ack»;
+  tidnew = carriesTidnew (q .class % 256) (tidnewDueOf t);
   len = 0;
 }
+
+-- 01: "GenTID counts modulo 32,768, also for class 0"; 02, L2: and whether TIDnew is then due
+unfoldable pub countedBy : List ℕ → Request → GenTidChange
+countedBy t q = Set (nextTid (genTidOf t)) (dueAfter (q .class % 256) (tidnewDueOf t) (nextTid (genTidOf t)))
 
 -- a request brings its time and the length of its data
 unfoldable pub requestGiven : Request → Given
@@ -84,10 +90,10 @@ requestGiven q = record { time = q .time; kind = 0; reason = 0; len = q .len; «
 unfoldable pub requestCall : Request → Call
 requestCall q = record { message = record { start = 0; len = q .len }; info = noPart; user = noPart; tells = Tid }
 
--- 01: "Request: send Invoke; class 0 ends; else RCR 0, timer R[0], RESULT WAIT"; "GenTID counts modulo 32,768, also for class 0"
+-- 01: "Request: send Invoke; class 0 ends; else RCR 0, timer R[0], RESULT WAIT"
 unfoldable pub requestStep : List ℕ → ℕ → Request → Step
 requestStep t place q =
-    openingStep t (requestedOf (q .class % 256)) (requester t place q) (requestGiven q) (Set (nextTid (genTidOf t))) (requestCall q)
+    openingStep t (requestedOf (q .class % 256)) (requester t place q) (requestGiven q) (countedBy t q) (requestCall q)
 
 -- the whole plan: "takes the lowest free record when it opens one"
 unfoldable pub requestPlan : List ℕ → ℕ → ℕ → Request → Plan
@@ -104,4 +110,4 @@ unfoldable pub requestPlace : List ℕ → ℕ → ℕ → Request → Placed
 requestPlace t store output q = placedBy (lowest (requestTests t store output q)) (placeFor (freeOf t (count t)))
 
 unfoldable pub requestOpens : List ℕ → ℕ → Request → Coming
-requestOpens t place q = Opens (requestedOf (q .class % 256)) (requester t place q) (Set (nextTid (genTidOf t)))
+requestOpens t place q = Opens (requestedOf (q .class % 256)) (requester t place q) (countedBy t q)

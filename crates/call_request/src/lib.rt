@@ -11,7 +11,7 @@ use call_refusal::Judged;
 use call_refusal::Placed;
 use row_turns::Given;
 use step_carrying::Coming;
-use step_commit::TidChange;
+use step_commit::GenTidChange;
 use step_plan::Call;
 use step_plan::Holder;
 use step_plan::Part;
@@ -95,6 +95,8 @@ pub fn request_opens(t: &[u8], place: usize, q: Request) -> Coming
 {
     let tid = table_layout::gen_tid_of(t);
     let class = (q.class % 256) as u8;
+    let due = table_layout::tidnew_due(t);
+    let tidnew = table_tids::carries_tidnew(class, due);
     let h = Holder {
         place: place,
         role: Role::Initiator,
@@ -102,11 +104,13 @@ pub fn request_opens(t: &[u8], place: usize, q: Request) -> Coming
         tid: tid,
         class: class,
         up: q.user_ack,
+        tidnew: tidnew,
         len: 0,
     };
     let next = table_tids::next_tid(tid);
     let opening = row_choice::requested(class);
-    Coming::Opens(opening, h, TidChange::Set(next))
+    let still = table_tids::due_after(class, due, next);
+    Coming::Opens(opening, h, GenTidChange::Set(next, still))
 }
 
 pub fn request_given(q: Request) -> Given

@@ -32,7 +32,8 @@ fn first_octet(kind: Kind) -> u8
     }
 }
 
-fn invoke_octet(version: u8, tidnew: bool, up: bool, class: u8) -> u8
+// The octet after an Invoke's TID.
+pub fn invoke_octet(version: u8, tidnew: bool, up: bool, class: u8) -> u8
     requires { ⌜ (version < 4) × (class < 4) ⌝ }
     ensures { λ r. ⌜ r ≡ version * 64 + bit tidnew * 32 + bit up * 16 + class ⌝ }
 {

@@ -111,7 +111,7 @@ module _ (c : Call) (l : Lent) (step : Step) (lends : Lends c l) (goes : planFor
       let place-is : step .changes .place ≡ k .holder .place = ap (λ (y : Step). y .changes .place) (k .step-is) in
       let is : recordAt (tableLeft c l) (k .holder .place) ≡ x = ap (λ (n : ℕ). recordAt (tableLeft c l) n) (sym place-is) ∙ there x put in
       let named : x .deadline ≡ deadlineBy (openingTimer (k .opening)) 0 (timeOf c) (settingsOf t) (intervalsOf t) x =
-      opening-deadline (k .given) (settingsOf t) (intervalsOf t) (newRecord (k .holder .peer) (k .holder .tid) (k .holder .up)) (k .opening) live (small x (ranged x put))
+      opening-deadline (k .given) (settingsOf t) (intervalsOf t) (newRecord (k .holder .peer) (k .holder .tid) (k .holder .up) (k .holder .tidnew)) (k .opening) live (small x (ranged x put))
       ∙ ap (λ (n : ℕ). deadlineBy (openingTimer (k .opening)) 0 n (settingsOf t) (intervalsOf t) x) (k .time) in
       rw is named
 

@@ -11,7 +11,7 @@ use Rattle.step_plan.specs.declared.Step.{Step}
 use Rattle.step_plan.specs.declared.Plan.{Plan}
 use Rattle.step_plan.specs.declared.Plan.the-variants.{Refuse, Go}
 use Rattle.step_opening.specs.Opens.{openingChanges, openingStep}
-use Rattle.call_request.specs.Requests.{requestStep}
+use Rattle.call_request.specs.Requests.{requestStep, countedBy}
 use Rattle.step_outcome.specs.Carry.{Lent, Done, tableThen, carriedOut, outcome}
 use Rattle.call_plans.specs.Calls.{Call, Lends, promised, planFor, isRequest}
 use Rattle.law_ways.proofs.Ways.{Way}
@@ -19,12 +19,12 @@ use Rattle.law_ways.proofs.CallWays.{call-ways}
 use Rattle.law_plans_sound.proofs.CallSound.{way-sound}
 use Rattle.law_calls.proofs.GenTid.{step-leaves}
 use Rattle.law_afterwards.specs.GenTid.{genTidAfter}
-use Rattle.law_commit.proofs.Left.{headerThen, gen-tid-left}
+use Rattle.law_commit.proofs.Left.{genTidThen, gen-tid-left}
 
 module _ (c : Call) (l : Lent) (lends : Lends c l) where
   -- the column of an accepted call: a request's sets it one higher, any other's keeps it
-  column : (step : Step) → Way c l step → (b : Bool) → isRequest c ≡ b → headerThen (step .changes .«gen_tid») (genTidOf (l .table)) ≡ pick b ((genTidOf (l .table) + 1) % 32768) (genTidOf (l .table))
-  unfolding requestStep openingStep openingChanges stepOf
+  column : (step : Step) → Way c l step → (b : Bool) → isRequest c ≡ b → genTidThen (step .changes .«gen_tid») (genTidOf (l .table)) ≡ pick b ((genTidOf (l .table) + 1) % 32768) (genTidOf (l .table))
+  unfolding requestStep countedBy openingStep openingChanges stepOf
   column step w false e = rw (step-leaves c l step e w) refl
   column step (inl i) true e = true-false (sym e ∙ i .no-request)
   column step (inr (inl k)) true e = true-false (sym e ∙ k .no-request)

@@ -47,6 +47,7 @@ named Cache.SetIfNone cached tid = go (eqb cached 0)
     go : (b : Bool) → headerThen (pick b (Set (tid + 1)) Unchanged) cached ≡ pick b (tid + 1) cached
     go true = refl
     go false = refl
+named Cache.Drop cached tid = refl
 
 module _ (c : Call) (l : Lent) (step : Step) (lends : Lends c l) (goes : planFor c l ≡ Go step) where
   -- the cached TID of the peer of the step's changes

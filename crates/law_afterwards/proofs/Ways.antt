@@ -4,16 +4,15 @@ use mathlib.Core.Path.{_≡_, refl, sym, ap, _∙_}
 use mathlib.Core.Logic.{inl, inr}
 use lib.ListN.{length}
 use Rattle.codec_reading.specs.Read.{pduOf}
-use Rattle.table_layout.specs.Table.{count, genTidOf}
-use Rattle.table_tids.specs.Tids.{nextTid}
+use Rattle.table_layout.specs.Table.{count}
 use Rattle.table_finding.specs.Finding.{freeOf}
 use Rattle.table_well_formed.specs.WellFormed.{WellFormed}
 use Rattle.row_choice.specs.Rows.{requestedOf}
-use Rattle.step_commit.specs.declared.TidChange.the-variants.{Unchanged, Set}
+use Rattle.step_commit.specs.declared.GenTidChange.the-variants.{Unchanged}
 use Rattle.step_opening.specs.Opens.{placeFor}
 use Rattle.step_plan.specs.declared.Step.{Step}
 use Rattle.step_plan.specs.declared.Plan.the-variants.{Go}
-use Rattle.call_request.specs.Requests.{requester, requestGiven, requestCall, requestStep}
+use Rattle.call_request.specs.Requests.{requester, countedBy, requestGiven, requestCall, requestStep}
 use Rattle.call_request.specs.declared.Request.{Request}
 use Rattle.call_request.proofs.Accepted.{placeOf}
 use Rattle.call_receive.specs.Receives.{arriverOf, openedGiven, openedCall, openedStep, arrivalOpening, unmatchedStep}
@@ -32,7 +31,7 @@ module _ (c : Call) (l : Lent) (step : Step) where
         opening = requestedOf (q .class % 256);
         holder = requester (l .table) (placeOf (l .table)) ask;
         given = requestGiven ask;
-        genTid = Set (nextTid (genTidOf (l .table)));
+        genTid = countedBy (l .table) ask;
         asked = requestCall ask;
         step-is = q .accepted .step-is;
         time = ap timeOf (sym (q .call-is));

@@ -23,3 +23,5 @@ abbrev pub lastTidBy : Cache → (cached tid : ℕ) → ℕ
 lastTidBy Cache.Same cached tid = cached
 lastTidBy Cache.Set cached tid = tid + 1
 lastTidBy Cache.SetIfNone cached tid = pick (eqb cached 0) (tid + 1) cached
+-- 02, L2: "drops the cached TID for that peer"
+lastTidBy Cache.Drop cached tid = 0

@@ -9,7 +9,7 @@ use Rattle.row_events.specs.declared.Event.{Event}
 use Rattle.row_events.specs.declared.Event.the-variants as Event
 use Rattle.row_events.specs.declared.Opening.{Opening}
 use Rattle.row_turns.specs.declared.Given.{Given}
-use Rattle.step_commit.specs.declared.TidChange.{TidChange}
+use Rattle.step_commit.specs.declared.GenTidChange.{GenTidChange}
 use Rattle.step_plan.specs.Steps.{idleStep}
 use Rattle.step_plan.specs.declared.Holder.{Holder}
 use Rattle.step_plan.specs.declared.Call.{Call as Asked}
@@ -34,7 +34,7 @@ pub record ComesAlone (call : Call) (l : Lent) (step : Step) : Type 0 where
   pub opening : Opening
   pub holder : Holder
   pub given : Given
-  pub genTid : TidChange
+  pub genTid : GenTidChange
   pub asked : Asked
   pub step-is : step ≡ openingStep (l .table) opening holder given genTid asked
   pub time : given .time ≡ timeOf call

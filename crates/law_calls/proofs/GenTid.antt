@@ -20,6 +20,7 @@ use Rattle.table_finding.specs.declared.Found.{Found}
 use Rattle.table_finding.specs.declared.Found.the-variants as Found
 use Rattle.step_commit.specs.declared.Change.{Change}
 use Rattle.step_commit.specs.declared.Change.the-variants.{Nothing, Put, Clear}
+use Rattle.step_commit.specs.declared.GenTidChange.the-variants as GenTidChange
 use Rattle.step_commit.specs.declared.TidChange.{TidChange}
 use Rattle.step_commit.specs.declared.TidChange.the-variants.{Unchanged, Set}
 use Rattle.step_commit.specs.declared.Changes.{Changes}
@@ -73,7 +74,7 @@ after-changes : (t : List ℕ) (c : Changes) (exit : List ℕ) → genTidOf (tab
 unfolding tableChanged
 after-changes t c exit = clock-keeps _ (c .time) ∙ cached-keeps _ (c .peer) (c .cached)
 
-pub step-keeps-gen-tid : (l : Lent) (step : Step) → step .changes .«gen_tid» ≡ Unchanged → genTidOf (carriedOut l step .table) ≡ genTidOf (l .table)
+pub step-keeps-gen-tid : (l : Lent) (step : Step) → step .changes .«gen_tid» ≡ GenTidChange.Unchanged → genTidOf (carriedOut l step .table) ≡ genTidOf (l .table)
 unfolding carriedOut tableThen genTidChanged
 step-keeps-gen-tid l step e =
     after-changes (l .table) (step .changes) (l .exit)
@@ -81,7 +82,7 @@ step-keeps-gen-tid l step e =
 
 -- a step that leaves GenTID
 abbrev Leaves : Step → Type 0
-Leaves step = step .changes .«gen_tid» ≡ Unchanged
+Leaves step = step .changes .«gen_tid» ≡ GenTidChange.Unchanged
 
 pub step-leaves : (c : Call) (l : Lent) (step : Step) → isRequest c ≡ false → Way c l step → Leaves step
 unfolding idleStep idleChanges liveStep stepOf turnChanges unmatchedStep openedStep openingStep openingChanges

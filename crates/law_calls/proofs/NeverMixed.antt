@@ -6,7 +6,7 @@ use mathlib.Core.Bool.{Bool, true, false, _&&_, _||_}
 use mathlib.Core.Logic.{_⊎_, inl, inr}
 use Rattle.base_lists.specs.Seq.{pick}
 use Rattle.base_lists.proofs.StoresAndParts.{true-false}
-use Rattle.table_layout.specs.Table.{count, genTidOf, recordAt}
+use Rattle.table_layout.specs.Table.{count, recordAt}
 use Rattle.table_finding.specs.Finding.{freeOf, dueOf}
 use Rattle.table_finding.specs.declared.Found.{Found}
 use Rattle.table_finding.specs.declared.Found.the-variants as Found
@@ -16,7 +16,6 @@ use Rattle.codec_pdu.specs.declared.Kind.the-variants as Kind
 use Rattle.codec_pdu.specs.declared.Pdu.{Pdu}
 use Rattle.codec_reading.specs.Read.{pduOf}
 use Rattle.row_choice.specs.Rows.{requestedOf}
-use Rattle.table_tids.specs.Tids.{nextTid}
 use Rattle.step_arrivals.specs.Arrivals.{eventOf}
 use Rattle.row_events.specs.declared.Event.the-variants as Event
 use Rattle.law_rows.specs.Shown.{takesResult}
@@ -27,14 +26,14 @@ use Rattle.step_shown.specs.Shows.{shownOf, placeOf}
 use Rattle.step_shown.specs.declared.Place.{Place}
 use Rattle.step_shown.specs.declared.Shown.{Shown}
 use Rattle.step_shown.specs.declared.Shown.the-variants as Shown
-use Rattle.step_commit.specs.declared.TidChange.the-variants.{Unchanged, Set}
+use Rattle.step_commit.specs.declared.GenTidChange.the-variants.{Unchanged}
 use Rattle.step_opening.specs.Opens.{placeFor}
 use Rattle.step_plan.specs.declared.Holder.{Holder}
 use Rattle.step_plan.specs.Steps.{placeIn, contextOf, idleStep}
 use Rattle.step_plan.specs.declared.Step.{Step}
 use Rattle.step_plan.specs.declared.Plan.{Plan}
 use Rattle.step_plan.specs.declared.Plan.the-variants.{Refuse, Go}
-use Rattle.call_request.specs.Requests.{requester, requestGiven, requestCall, requestStep}
+use Rattle.call_request.specs.Requests.{requester, countedBy, requestGiven, requestCall, requestStep}
 use Rattle.call_request.specs.declared.Request.{Request}
 use Rattle.call_request.proofs.Accepted.{request-accepted}
 use Rattle.call_primitive.specs.Primitives.{primitiveGiven, primitiveCall, primitiveStep}
@@ -67,7 +66,7 @@ quiet step e = neither (stepAborts step) (stepResults step) e
 request-apart : (t : List ℕ) (place : ℕ) (q : Request) → Apart (requestStep t place q)
 unfolding requestStep
 request-apart t place q =
-    quiet (requestStep t place q) (opening-neither t (requestedOf (q .class % 256)) (requester t place q) (requestGiven q) (Set (nextTid (genTidOf t))) (requestCall q))
+    quiet (requestStep t place q) (opening-neither t (requestedOf (q .class % 256)) (requester t place q) (requestGiven q) (countedBy t q) (requestCall q))
 
 unmatched-apart : (t : List ℕ) (role : Role) (peer tid time : ℕ) (s : List ℕ) (p : Pdu) → Apart (unmatchedStep t role peer tid time s p)
 unfolding unmatchedStep openedStep

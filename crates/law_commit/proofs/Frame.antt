@@ -1,23 +1,25 @@
--- The changes of a call touch the record at its place, one peer's cached TID, GenTID and the clock, and nothing else. Assumes nothing.
+-- The changes of a call touch the record at its place, one peer's cached TID, GenTID with its flag of TIDnew and the clock, and nothing else. Assumes nothing.
 use Prim.Native.Nat.{ℕ, _+_, _*_, _≤_, _<_}
 use native.Mathlib.Omega.{arith}
 use mathlib.Core.Path.{_≡_, refl, _∙_}
-use mathlib.Core.List.{List}
+use mathlib.Core.List.{List, [], _∷_}
 use mathlib.Core.Logic.{inl, inr}
 use mathlib.Core.Bool.{Bool, true, false}
 use lib.ListN.{length, replicate, length-replicate}
-use Rattle.base_layout.specs.Layout.{recordSize, fieldsSize, cachedAt, exitOffset, base, peers, exitBound}
-use Rattle.base_lists.specs.Seq.{put}
+use Rattle.base_layout.specs.Layout.{recordSize, fieldsSize, tidnewDueAt, cachedAt, exitOffset, base, peers, exitBound}
+use Rattle.base_lists.specs.Seq.{bit, put}
 use Rattle.base_octets.specs.Octets.{enc, Apart}
 use Rattle.base_octets.proofs.StoredAndRead.{apart-rows, length-enc}
 use Rattle.table_record.specs.Record.{octetsOf}
 use Rattle.table_record.proofs.Back.{length-octets}
-use Rattle.table_layout.specs.Table.{settingsOf, intervalsOf, cachedOf, recordAt, putRecord, clearRecord, putGenTid, putCached, putClock}
+use Rattle.table_layout.specs.Table.{settingsOf, intervalsOf, cachedOf, recordAt, putRecord, clearRecord, putGenTid, putTidnewDue, putCached, putClock}
 use Rattle.table_layout.proofs.Apart.{settings-apart, rows-apart, cached-apart, record-apart}
 use Rattle.table_layout.proofs.Put.{apart-records, clock-same}
 use Rattle.table_well_formed.specs.WellFormed.{WellFormed}
 use Rattle.step_commit.specs.declared.Change.{Change}
 use Rattle.step_commit.specs.declared.Change.the-variants.{Nothing, Put, Clear}
+use Rattle.step_commit.specs.declared.GenTidChange.{GenTidChange}
+use Rattle.step_commit.specs.declared.GenTidChange.the-variants as GenTidChange
 use Rattle.step_commit.specs.declared.TidChange.{TidChange}
 use Rattle.step_commit.specs.declared.TidChange.the-variants.{Unchanged, Set}
 use Rattle.step_commit.specs.declared.Changes.{Changes}
@@ -78,12 +80,14 @@ module _ (place peer : ℕ) where
   exit-same t true exit h = in-record t exitOffset exit (omega arith)
   exit-same t false exit h = itself t
 
-  gen-tid-same : (t : List ℕ) (c : TidChange) → Same place peer t (genTidChanged t c)
-  unfolding genTidChanged putGenTid
-  gen-tid-same t Unchanged = itself t
-  gen-tid-same t (Set v) =
+  gen-tid-same : (t : List ℕ) (c : GenTidChange) → Same place peer t (genTidChanged t c)
+  unfolding genTidChanged putGenTid putTidnewDue
+  gen-tid-same t GenTidChange.Unchanged = itself t
+  gen-tid-same t (GenTidChange.Set v due) =
       let n : length (enc 2 v) ≡ 2 = length-enc 2 v in
-      stored t 8 (enc 2 v) (λ j d. inr (omega arith)) (inr (omega arith)) (λ p h d. inr (omega arith))
+      then-same t (put t 8 (enc 2 v)) _
+      (stored t 8 (enc 2 v) (λ j d. inr (omega arith)) (inr (omega arith)) (λ p h d. inr (omega arith)))
+      (stored (put t 8 (enc 2 v)) tidnewDueAt (bit due ∷ []) (λ j d. inr (omega arith)) (inl (omega arith)) (λ p h d. inr (omega arith)))
 
   cached-same : (t : List ℕ) (c : TidChange) → peer < peers → Same place peer t (cacheChanged t peer c)
   unfolding cacheChanged putCached

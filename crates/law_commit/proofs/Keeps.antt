@@ -5,22 +5,24 @@ use mathlib.Core.Path.{_≡_, refl}
 use mathlib.Core.List.{List}
 use mathlib.Core.Bool.{Bool, true, false}
 use lib.ListN.{length}
-use Rattle.base_layout.specs.Layout.{recordSize, base, tidBound, cachedBound, peers, exitBound}
+use Rattle.base_layout.specs.Layout.{recordSize, base, peers, exitBound}
 use Rattle.base_lists.proofs.StoresAndParts.{true-false}
 use Rattle.table_layout.specs.Table.{count, settingsOf, recordAt, putRecord}
 use Rattle.table_layout.proofs.Put.{record-same}
 use Rattle.table_record_ok.specs.OneRecord.{Live}
 use Rattle.table_well_formed.specs.WellFormed.{WellFormed}
-use Rattle.law_formed_kept.proofs.InHeader.{clock-keeps, gen-tid-keeps, cached-keeps}
+use Rattle.law_formed_kept.proofs.InHeader.{clock-keeps, gen-tid-keeps, tidnew-due-keeps, cached-keeps}
 use Rattle.law_formed_kept.proofs.Keeps.{range-fits, put-keeps, clear-keeps, exit-keeps}
 use Rattle.step_commit.specs.declared.Change.{Change}
 use Rattle.step_commit.specs.declared.Change.the-variants.{Nothing, Put, Clear}
+use Rattle.step_commit.specs.declared.GenTidChange.{GenTidChange}
+use Rattle.step_commit.specs.declared.GenTidChange.the-variants as GenTidChange
 use Rattle.step_commit.specs.declared.TidChange.{TidChange}
 use Rattle.step_commit.specs.declared.TidChange.the-variants.{Unchanged, Set}
 use Rattle.step_commit.specs.declared.Changes.{Changes}
 use Rattle.step_commit.specs.Commit.{recordChanged, exitStored, genTidChanged, cacheChanged, tableChanged}
 use Rattle.step_commit.proofs.Length.{length-changed}
-use Rattle.law_commit.specs.Allowed.{ChangeOk, SetOk, Allowed}
+use Rattle.law_commit.specs.Allowed.{ChangeOk, SetOk, CountOk, Allowed}
 
 -- a place below the count lies within the table
 room : (t : List ℕ) (i : ℕ) → WellFormed t → i < count t → base i + recordSize ≤ length t
@@ -48,12 +50,12 @@ unfolding exitStored
 exit-part t place true exit w h live fits = exit-keeps t place exit w h (live refl) fits
 exit-part t place false exit w h live fits = w
 
-gen-tid-part : (t : List ℕ) (c : TidChange) → WellFormed t → SetOk tidBound c → WellFormed (genTidChanged t c)
-unfolding genTidChanged SetOk
-gen-tid-part t Unchanged w ok = w
-gen-tid-part t (Set v) w ok = gen-tid-keeps t v w ok
+gen-tid-part : (t : List ℕ) (c : GenTidChange) → WellFormed t → CountOk c → WellFormed (genTidChanged t c)
+unfolding genTidChanged CountOk
+gen-tid-part t GenTidChange.Unchanged w ok = w
+gen-tid-part t (GenTidChange.Set v due) w ok = tidnew-due-keeps _ due (gen-tid-keeps t v w ok)
 
-cached-part : (t : List ℕ) (peer : ℕ) (c : TidChange) → WellFormed t → peer < peers → SetOk cachedBound c → WellFormed (cacheChanged t peer c)
+cached-part : (t : List ℕ) (peer : ℕ) (c : TidChange) → WellFormed t → peer < peers → SetOk c → WellFormed (cacheChanged t peer c)
 unfolding cacheChanged SetOk
 cached-part t peer Unchanged w h ok = w
 cached-part t peer (Set v) w h ok = cached-keeps t peer v w h ok

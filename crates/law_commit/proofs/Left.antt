@@ -1,21 +1,22 @@
--- What the changes of a call leave, read back: GenTID, the peer's cached TID, and the record at their place. Assumes nothing.
+-- What the changes of a call leave, read back: GenTID and the flag of TIDnew, the peer's cached TID, and the record at their place. Assumes nothing.
 use Prim.Native.Nat.{ℕ, _+_, _*_, _≤_}
 use native.Mathlib.Omega.{arith}
 use mathlib.Core.Path.{_≡_, refl, ap, _∙_}
 use mathlib.Core.Bool.{Bool, true, false}
-use mathlib.Core.List.{List}
+use mathlib.Core.List.{List, [], _∷_}
 use mathlib.Core.Logic.{_⊎_, inl, inr}
 use lib.ListN.{length, getD, replicate, length-replicate}
-use Rattle.base_layout.specs.Layout.{headerSize, recordSize, fieldsSize, cachedAt, base, exitBase, tidBound, cachedBound}
-use Rattle.base_lists.specs.Seq.{put}
+use Rattle.base_layout.specs.Layout.{headerSize, recordSize, fieldsSize, tidnewDueAt, headerSpare2At, cachedAt, base, exitBase}
+use Rattle.base_lists.specs.Seq.{bit, put}
+use Rattle.base_lists.proofs.StoresAndParts.{length-put}
 use Rattle.base_octets.specs.Octets.{enc, Apart}
 use Rattle.base_octets.proofs.StoredAndRead.{length-enc, getD-same}
 use Rattle.table_record.specs.Record.{stateOf, octetsOf}
 use Rattle.table_record.specs.declared.State.the-variants.{Free}
 use Rattle.table_record.specs.declared.Record.{Record}
-use Rattle.table_layout.specs.Table.{genTidOf, cachedOf, settingsOf, recordAt, putRecord, clearRecord, putGenTid, putCached, putClock}
-use Rattle.table_layout.proofs.Apart.{gen-tid-apart, cached-apart, record-apart}
-use Rattle.table_layout.proofs.Put.{record-same, gen-tid-same, cached-same}
+use Rattle.table_layout.specs.Table.{genTidOf, tidnewDueOf, cachedOf, settingsOf, recordAt, putRecord, clearRecord, putGenTid, putTidnewDue, putCached, putClock}
+use Rattle.table_layout.proofs.Apart.{gen-tid-apart, tidnew-due-apart, cached-apart, record-apart}
+use Rattle.table_layout.proofs.Put.{record-same, gen-tid-same, tidnew-due-same, cached-same}
 use Rattle.table_record_ok.proofs.States.{state-octet}
 use Rattle.table_well_formed.specs.WellFormed.{WellFormed}
 use Rattle.law_formed_kept.proofs.InRecord.{equal-or}
@@ -23,11 +24,13 @@ use Rattle.law_formed_kept.proofs.Keeps.{range-fits}
 use Rattle.step_commit.specs.Commit.{recordChanged, exitStored, genTidChanged, cacheChanged, tableChanged}
 use Rattle.step_commit.specs.declared.Change.{Change}
 use Rattle.step_commit.specs.declared.Change.the-variants.{Nothing, Put, Clear}
+use Rattle.step_commit.specs.declared.GenTidChange.{GenTidChange}
+use Rattle.step_commit.specs.declared.GenTidChange.the-variants as GenTidChange
 use Rattle.step_commit.specs.declared.TidChange.{TidChange}
 use Rattle.step_commit.specs.declared.TidChange.the-variants.{Unchanged, Set}
 use Rattle.step_commit.specs.declared.Changes.{Changes}
 use Rattle.step_commit.proofs.Length.{length-after, length-clock}
-use Rattle.law_commit.specs.Allowed.{ChangeOk, SetOk, Allowed}
+use Rattle.law_commit.specs.Allowed.{ChangeOk, SetOk, CountOk, Allowed}
 use Rattle.law_commit.proofs.Frame.{commit-frames}
 
 -- a reading of the n octets at `at` sees no store apart from them
@@ -43,10 +46,14 @@ module _ {A : Type 0} (f : List ℕ → A) (at n : ℕ) (apart : (t : List ℕ) 
   past-exit t place true exit h = apart t (exitBase place) exit (inl h)
   past-exit t place false exit h = refl
 
-  past-gen-tid : (t : List ℕ) (c : TidChange) → 10 ≤ at → f (genTidChanged t c) ≡ f t
+  past-due : (t : List ℕ) (due : Bool) → Apart at n tidnewDueAt 1 → f (putTidnewDue t due) ≡ f t
+  unfolding putTidnewDue
+  past-due t due h = apart t tidnewDueAt (bit due ∷ []) h
+
+  past-gen-tid : (t : List ℕ) (c : GenTidChange) → headerSpare2At ≤ at → f (genTidChanged t c) ≡ f t
   unfolding genTidChanged putGenTid
-  past-gen-tid t Unchanged h = refl
-  past-gen-tid t (Set v) h = apart t 8 (enc 2 v) (inr (omega (arith, length-enc 2 v)))
+  past-gen-tid t GenTidChange.Unchanged h = refl
+  past-gen-tid t (GenTidChange.Set v due) h = past-due _ due (inr (omega arith)) ∙ apart t 8 (enc 2 v) (inr (omega (arith, length-enc 2 v)))
 
   past-cached : (t : List ℕ) (peer : ℕ) (c : TidChange) → Apart at n (cachedAt + peer * 2) 2 → f (cacheChanged t peer c) ≡ f t
   unfolding cacheChanged putCached
@@ -62,6 +69,15 @@ abbrev pub headerThen : TidChange → ℕ → ℕ
 headerThen Unchanged was = was
 headerThen (Set v) was = v
 
+abbrev pub genTidThen : GenTidChange → ℕ → ℕ
+genTidThen GenTidChange.Unchanged was = was
+genTidThen (GenTidChange.Set v due) was = v
+
+-- and the flag of TIDnew with it
+abbrev pub dueThen : GenTidChange → Bool → Bool
+dueThen GenTidChange.Unchanged was = was
+dueThen (GenTidChange.Set v due) was = due
+
 module _ (t : List ℕ) (c : Changes) (exit : List ℕ) (w : WellFormed t) (ok : Allowed t c exit) where
   abbrev t₂ : List ℕ
   t₂ = exitStored (recordChanged t (c .place) (c .change)) (c .place) (c .exit) exit
@@ -71,7 +87,7 @@ module _ (t : List ℕ) (c : Changes) (exit : List ℕ) (w : WellFormed t) (ok :
 
   -- the changes but for the header's
   abbrev inRecord : Changes
-  inRecord = record { place = c .place; change = c .change; exit = c .exit; «gen_tid» = Unchanged; peer = c .peer; cached = Unchanged; time = c .time }
+  inRecord = record { place = c .place; change = c .change; exit = c .exit; «gen_tid» = GenTidChange.Unchanged; peer = c .peer; cached = Unchanged; time = c .time }
 
   abbrev butCached : Changes
   butCached = record { place = c .place; change = c .change; exit = c .exit; «gen_tid» = c .«gen_tid»; peer = c .peer; cached = Unchanged; time = c .time }
@@ -84,21 +100,35 @@ module _ (t : List ℕ) (c : Changes) (exit : List ℕ) (w : WellFormed t) (ok :
   unfolding tableChanged cacheChanged
   sized₃ = omega (arith, length-clock t₃ (c .time), length-after t butCached exit, w .sized .whole)
 
-  gen-tid-set : (h : TidChange) → SetOk tidBound h → genTidOf (genTidChanged t₂ h) ≡ headerThen h (genTidOf t₂)
-  unfolding genTidChanged SetOk
-  gen-tid-set Unchanged k = refl
-  gen-tid-set (Set v) k = gen-tid-same t₂ v sized₂ (omega arith)
+  gen-tid-set : (h : GenTidChange) → CountOk h → genTidOf (genTidChanged t₂ h) ≡ genTidThen h (genTidOf t₂)
+  unfolding genTidChanged CountOk
+  gen-tid-set GenTidChange.Unchanged k = refl
+  gen-tid-set (GenTidChange.Set v due) k = past-due genTidOf 8 2 gen-tid-apart _ due (inl (omega arith)) ∙ gen-tid-same t₂ v sized₂ (omega arith)
 
-  pub gen-tid-left : genTidOf (tableChanged t c exit) ≡ headerThen (c .«gen_tid») (genTidOf t)
+  pub gen-tid-left : genTidOf (tableChanged t c exit) ≡ genTidThen (c .«gen_tid») (genTidOf t)
   unfolding tableChanged
   gen-tid-left =
       let before : genTidOf t₂ ≡ genTidOf t = past-exit genTidOf 8 2 gen-tid-apart _ (c .place) (c .exit) exit (omega arith) ∙ past-record genTidOf 8 2 gen-tid-apart t (c .place) (c .change) (omega arith) in
       past-clock genTidOf 8 2 gen-tid-apart _ (c .time) (omega arith)
       ∙ past-cached genTidOf 8 2 gen-tid-apart t₃ (c .peer) (c .cached) (inl (omega arith))
       ∙ gen-tid-set (c .«gen_tid») (ok .gen-tid)
-      ∙ ap (headerThen (c .«gen_tid»)) before
+      ∙ ap (genTidThen (c .«gen_tid»)) before
 
-  cached-set : (h : TidChange) → SetOk cachedBound h → cachedOf (cacheChanged t₃ (c .peer) h) (c .peer) ≡ headerThen h (cachedOf t₃ (c .peer))
+  due-set : (h : GenTidChange) → tidnewDueOf (genTidChanged t₂ h) ≡ dueThen h (tidnewDueOf t₂)
+  unfolding genTidChanged putGenTid
+  due-set GenTidChange.Unchanged = refl
+  due-set (GenTidChange.Set v due) = tidnew-due-same (put t₂ 8 (enc 2 v)) due (omega (arith, sized₂, length-put t₂ 8 (enc 2 v)))
+
+  pub tidnew-due-left : tidnewDueOf (tableChanged t c exit) ≡ dueThen (c .«gen_tid») (tidnewDueOf t)
+  unfolding tableChanged
+  tidnew-due-left =
+      let before : tidnewDueOf t₂ ≡ tidnewDueOf t = past-exit tidnewDueOf tidnewDueAt 1 tidnew-due-apart _ (c .place) (c .exit) exit (omega arith) ∙ past-record tidnewDueOf tidnewDueAt 1 tidnew-due-apart t (c .place) (c .change) (omega arith) in
+      past-clock tidnewDueOf tidnewDueAt 1 tidnew-due-apart _ (c .time) (omega arith)
+      ∙ past-cached tidnewDueOf tidnewDueAt 1 tidnew-due-apart t₃ (c .peer) (c .cached) (inl (omega arith))
+      ∙ due-set (c .«gen_tid»)
+      ∙ ap (dueThen (c .«gen_tid»)) before
+
+  cached-set : (h : TidChange) → SetOk h → cachedOf (cacheChanged t₃ (c .peer) h) (c .peer) ≡ headerThen h (cachedOf t₃ (c .peer))
   unfolding cacheChanged SetOk
   cached-set Unchanged k = refl
   cached-set (Set v) k = cached-same t₃ (c .peer) v sized₃ (ok .peer) (omega arith)

@@ -11,6 +11,8 @@ use Rattle.table_record_ok.specs.OneRecord.{InRange}
 use Rattle.law_formed_kept.specs.UnusedName.{Unused}
 use Rattle.step_commit.specs.declared.Change.{Change}
 use Rattle.step_commit.specs.declared.Change.the-variants.{Nothing, Put, Clear}
+use Rattle.step_commit.specs.declared.GenTidChange.{GenTidChange}
+use Rattle.step_commit.specs.declared.GenTidChange.the-variants as GenTidChange
 use Rattle.step_commit.specs.declared.TidChange.{TidChange}
 use Rattle.step_commit.specs.declared.TidChange.the-variants.{Unchanged, Set}
 use Rattle.step_commit.specs.declared.Changes.{Changes}
@@ -21,19 +23,24 @@ ChangeOk t place Nothing exit = exit ≡ false
 ChangeOk t place (Put r) exit = InRange (settingsOf t) r × Unused t place r
 ChangeOk t place Clear exit = exit ≡ false
 
--- a number of the header that is set is in its range
-unfoldable pub SetOk : ℕ → TidChange → Type 0
-SetOk most Unchanged = Unit
-SetOk most (Set v) = v ≤ most
+-- a cached TID that is set is in its range
+unfoldable pub SetOk : TidChange → Type 0
+SetOk Unchanged = Unit
+SetOk (Set v) = v ≤ cachedBound
+
+-- and so is GenTID
+unfoldable pub CountOk : GenTidChange → Type 0
+CountOk GenTidChange.Unchanged = Unit
+CountOk (GenTidChange.Set v due) = v ≤ tidBound
 
 -- the changes of an accepted call
 pub record Allowed (t : List ℕ) (c : Changes) (exit : List ℕ) : Type 0 where
   pub place : c .place < count t
   pub change : ChangeOk t (c .place) (c .change) (c .exit)
   pub exit-fits : length exit ≤ exitBound
-  pub gen-tid : SetOk tidBound (c .«gen_tid»)
+  pub gen-tid : CountOk (c .«gen_tid»)
   pub peer : c .peer < peers
-  pub cached : SetOk cachedBound (c .cached)
+  pub cached : SetOk (c .cached)
   pub time : c .time ≤ timeBound
 
 -- demand 3: "A call changes no record but the one it names, opens or fires"; and the settings, the intervals and every other peer's cached TID are as they were

@@ -52,14 +52,14 @@ results-taken s e c true kind reason = at-state (λ s e c. pick (leb 1 (added (a
 results-taken s e c false kind reason = at-state (λ s e c. pick (leb 1 (added (actAt s e c false kind reason) .results)) (takesResult s e) true) refl s e c
 
 module _ (g : Given) (s : Settings) (rows : List (List ℕ)) (r : Record) where
-  freed : (a : Act) (n : Next) → added a .aborts ≤ room n → 1 ≤ added a .aborts → recordAfter n a r g s rows ≡ newRecord 0 0 false
+  freed : (a : Act) (n : Next) → added a .aborts ≤ room n → 1 ≤ added a .aborts → recordAfter n a r g s rows ≡ newRecord 0 0 false false
   unfolding recordAfter
   freed a Stays most least = absurd (omega arith)
   freed a Ends most least = refl
   freed a (Goes t) most least = absurd (omega arith)
 
   -- "nothing after the user's own abort or one shown to it": the record is free
-  pub after-abort : (row : Row) → let turn : Turn = rowTurn row r g s rows in 1 ≤ ofTurn (turn .send) (turn .first) (turn .second) .aborts → turn .after ≡ newRecord 0 0 false
+  pub after-abort : (row : Row) → let turn : Turn = rowTurn row r g s rows in 1 ≤ ofTurn (turn .send) (turn .first) (turn .second) .aborts → turn .after ≡ newRecord 0 0 false false
   unfolding rowTurn turnOf
   after-abort row aborts =
       let a = actOf row (r .«tidok_sent») (g .kind) (g .reason) in

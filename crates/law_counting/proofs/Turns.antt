@@ -84,11 +84,11 @@ module _ (g : Given) (s : Settings) (rows : List (List ℕ)) where
       (after-tallied g s rows r a (λ less. omega arith) (ok .rcr) (counts-allowed (g .kind) (g .reason) (r .«tidok_sent») e s r) (a .next) (rows-agree (g .kind) (g .reason) e s r live))
 
   -- any opening: the count starts with it
-  pub opening-fits : (o : Opening) (peer tid : ℕ) (userAck : Bool)
-      → let turn : Turn = openingTurn o (newRecord peer tid userAck) g s rows in Tallied (s .«rcr_max») (turn .after) (ofTurn (turn .send) (turn .first) (turn .second))
+  pub opening-fits : (o : Opening) (peer tid : ℕ) (userAck tidnew : Bool)
+      → let turn : Turn = openingTurn o (newRecord peer tid userAck tidnew) g s rows in Tallied (s .«rcr_max») (turn .after) (ofTurn (turn .send) (turn .first) (turn .second))
   unfolding openingTurn turnOf every openingAct actWith stored shown newRecord
-  opening-fits o peer tid userAck =
-      let r = newRecord peer tid userAck in
+  opening-fits o peer tid userAck tidnew =
+      let r = newRecord peer tid userAck tidnew in
       let counts : Opening → Bool = λ x. allowed (openingAct x .count) (ltb (r .rcr .0) (s .«rcr_max»)) (ltb (r .aec .0) (s .«aec_max»)) in
       rw (from-none (added (openingAct o))) at
       (after-tallied g s rows r (openingAct o) (λ less. omega arith) (omega arith) (at-opening counts refl o) (openingAct o .next) (openings-agree o))

@@ -110,7 +110,7 @@ pub record Limits (max : ℕ) (c : Counts) : Type 0 where
 
 -- 01: "A freed record is zeroed": its count is closed; else the record is live and says what was counted
 abbrev pub FreedOrFits : Record → Counts → Type 0
-FreedOrFits after c = (after ≡ newRecord 0 0 false) ⊎ (Live after × Fits after c)
+FreedOrFits after c = (after ≡ newRecord 0 0 false false) ⊎ (Live after × Fits after c)
 
 -- a record and its counts after a turn: in either case within the limits
 pub record Tallied (max : ℕ) (after : Record) (c : Counts) : Type 0 where

@@ -17,8 +17,7 @@ use Rattle.table_record.specs.declared.State.the-variants as State
 use Rattle.table_record.specs.declared.Record.{Record}
 use Rattle.codec_pdu.specs.declared.Pdu.{Pdu}
 use Rattle.codec_reading.specs.Read.{pduOf}
-use Rattle.table_layout.specs.Table.{count, genTidOf, recordAt}
-use Rattle.table_tids.specs.Tids.{nextTid}
+use Rattle.table_layout.specs.Table.{count, recordAt}
 use Rattle.table_finding.specs.Searched.{Called}
 use Rattle.law_formed_kept.proofs.InRecord.{equal-or}
 use Rattle.law_places.proofs.Places.{live-number, live-range}
@@ -28,8 +27,8 @@ use Rattle.row_choice.specs.Rows.{requestedOf}
 use Rattle.step_arrivals.specs.Arrivals.{arrivedOf}
 use Rattle.row_turns.specs.declared.Given.{Given}
 use Rattle.row_turns.specs.declared.Turn.{Turn}
-use Rattle.step_commit.specs.declared.TidChange.{TidChange}
-use Rattle.step_commit.specs.declared.TidChange.the-variants.{Unchanged, Set}
+use Rattle.step_commit.specs.declared.GenTidChange.{GenTidChange}
+use Rattle.step_commit.specs.declared.GenTidChange.the-variants.{Unchanged}
 use Rattle.step_changes.specs.Changes.{changeOf, turnChanges}
 use Rattle.step_opening.specs.Opens.{openedTurn, openingChanges, openingStep}
 use Rattle.step_live.specs.Turning.{liveTurn, liveStep}
@@ -40,7 +39,7 @@ use Rattle.step_plan.specs.declared.Call.{Call as Asked}
 use Rattle.step_plan.specs.declared.Step.{Step}
 use Rattle.step_plan.specs.declared.Plan.{Plan}
 use Rattle.step_plan.specs.declared.Plan.the-variants.{Refuse, Go}
-use Rattle.call_request.specs.Requests.{requester, requestGiven, requestCall, requestStep}
+use Rattle.call_request.specs.Requests.{requester, countedBy, requestGiven, requestCall, requestStep}
 use Rattle.call_request.specs.declared.Request.{Request}
 use Rattle.call_receive.specs.Receives.{userPart, keptPart, arriverOf, openedGiven, openedCall, openedStep, arrivalOpening, unmatchedStep}
 use Rattle.call_receive.proofs.Ways.{Unmatched}
@@ -160,7 +159,7 @@ module _ (e : Entry) (h : List Entry) (was : CellsHold (before e) (e .lent .stor
             still-holds place (turn .cell) (left .inside) (rw there s) (unwritten-cell place (left .unwritten (s .unwritten))) w
 
   -- an opening's turn; where it leads to TIDOK WAIT is said apart
-  module _ (opening : Opening) (holder : Holder) (g : Given) (genTid : TidChange) (c : Asked) (left : Left (e .lent) (openingStep (before e) opening holder g genTid c) (e .done)) where
+  module _ (opening : Opening) (holder : Holder) (g : Given) (genTid : GenTidChange) (c : Asked) (left : Left (e .lent) (openingStep (before e) opening holder g genTid c) (e .done)) where
     abbrev opened : Turn
     opened = openedTurn (before e) opening holder g
 
@@ -183,7 +182,7 @@ module _ (e : Entry) (h : List Entry) (was : CellsHold (before e) (e .lent .stor
   requested-holds : (place : ℕ) (q : Request) → Left (e .lent) (requestStep (before e) place q) (e .done) → Holds place
   unfolding requestStep requester
   requested-holds place q left =
-      opening-holds (requestedOf (q .class % 256)) (requester (before e) place q) (requestGiven q) (Set (nextTid (genTidOf (before e)))) (requestCall q) left
+      opening-holds (requestedOf (q .class % 256)) (requester (before e) place q) (requestGiven q) (countedBy (before e) q) (requestCall q) left
       (λ v live. true-false (sym (v .to-verify) ∙ requested-not (q .class % 256)))
 
   -- an Invoke to be verified

@@ -25,7 +25,7 @@ use Rattle.row_turns.specs.Turns.{turnOf, openingTurn}
 use Rattle.row_turns.specs.declared.Given.{Given}
 use Rattle.row_turns.specs.declared.Turn.{Turn}
 use Rattle.step_commit.specs.declared.Changes.{Changes}
-use Rattle.step_commit.specs.declared.TidChange.the-variants.{Unchanged}
+use Rattle.step_commit.specs.declared.GenTidChange.the-variants.{Unchanged}
 use Rattle.step_opening.specs.Opens.{openedTurn, openingStep}
 use Rattle.step_live.specs.Turning.{holderOf, liveTurn, liveStep}
 use Rattle.step_shown.specs.Kinds.{byKind}

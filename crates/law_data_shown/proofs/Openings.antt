@@ -22,7 +22,7 @@ use Rattle.table_finding.specs.Finding.{freeOf}
 use Rattle.table_finding.specs.Searched.{Called, NoneOf}
 use Rattle.row_events.specs.declared.Opening.{Opening}
 use Rattle.row_events.specs.declared.Opening.the-variants as Opening
-use Rattle.row_choice.specs.Rows.{requestedOf, openingOf, invoke0Of, invoke12Of}
+use Rattle.row_choice.specs.Rows.{requestedOf, openingOf, invoke0Of, byClass, invoke12Of}
 use Rattle.row_choice.specs.declared.Arrived.{Arrived as Tests}
 use Rattle.step_arrivals.specs.Arrivals.{tidOf, nameOf, invokesUs, arrivedOf}
 use Rattle.step_arrivals.specs.declared.Name.the-variants.{Of}
@@ -32,8 +32,8 @@ use Rattle.row_turns.specs.declared.Given.{Given}
 use Rattle.row_turns.specs.declared.Turn.{Turn}
 use Rattle.step_commit.specs.declared.Change.{Change}
 use Rattle.step_commit.specs.declared.Change.the-variants as Change
-use Rattle.step_commit.specs.declared.TidChange.{TidChange}
-use Rattle.step_commit.specs.declared.TidChange.the-variants.{Unchanged}
+use Rattle.step_commit.specs.declared.GenTidChange.{GenTidChange}
+use Rattle.step_commit.specs.declared.GenTidChange.the-variants.{Unchanged}
 use Rattle.step_changes.specs.Changes.{changeOf}
 use Rattle.step_opening.specs.Opens.{placeFor, openedTurn, openingChanges, openingStep}
 use Rattle.step_plan.specs.Steps.{stepOf}
@@ -106,15 +106,17 @@ module _ (a : Tests) where
     is-2 z o most = omega (arith, most, eqb-false (a .class) 0 z, eqb-false (a .class) 1 o)
 
     invoke-12 : eqb (a .class) 0 ≡ false → Fitting a (invoke12Of a)
-    unfolding invoke12Of
+    unfolding byClass invoke12Of
     invoke-12 z =
         picked P (a .«wrong_version») _ _ (λ w. neither _ refl refl refl refl)
         (λ w. picked P (a .«ttr_clear») _ _ (λ c. neither _ refl refl refl refl)
         (λ c. picked P (a .«too_long») _ _ (λ l. neither _ refl refl refl refl)
         (λ l. picked P (a .full) _ _ (λ f. neither _ refl refl refl refl)
-        (λ f. picked P (a .valid) _ _
+        (λ f. picked P (a .tidnew) _ _
+        (λ n. picked P (eqb (a .class) 1) _ _ (λ o. with-record Opening.Restarted1 refl (λ most. is-1 o) (λ e. l) refl) (λ o. with-record Opening.Restarted2 refl (is-2 z o) (λ e. l) refl))
+        (λ n. picked P (a .valid) _ _
         (λ v. picked P (eqb (a .class) 1) _ _ (λ o. with-record Opening.Valid1 refl (λ most. is-1 o) (λ e. l) refl) (λ o. with-record Opening.Valid2 refl (is-2 z o) (λ e. l) refl))
-        (λ v. picked P (eqb (a .class) 1) _ _ (λ o. with-record Opening.ToVerify1 refl (λ most. is-1 o) (λ e. l) refl) (λ o. with-record Opening.ToVerify2 refl (is-2 z o) (λ e. l) refl))))))
+        (λ v. picked P (eqb (a .class) 1) _ _ (λ o. with-record Opening.ToVerify1 refl (λ most. is-1 o) (λ e. l) refl) (λ o. with-record Opening.ToVerify2 refl (is-2 z o) (λ e. l) refl)))))))
       where
         P : Opening → Type 0
         P o = Fitting a o
@@ -136,7 +138,7 @@ requested-one P a b c class = picked P (eqb class 0) _ _ (λ e. a) (λ e. picked
 
 -- ---- the change of an opening
 
-module _ (t : List ℕ) (opening : Opening) (h : Holder) (g : Given) (genTid : TidChange) (c : Asked) where
+module _ (t : List ℕ) (opening : Opening) (h : Holder) (g : Given) (genTid : GenTidChange) (c : Asked) where
   abbrev opened : Record
   opened = openedTurn t opening h g .after
 
@@ -241,9 +243,9 @@ module _ (e : Entry) (time peer : ℕ) (called : e .call ≡ Call.Receive time p
     unfolding openingStep stepOf openingChanges arriverOf
     inside = rw (left .same-length) (left .inside)
 
-    named : OpenedAs opening (newRecord peer (u .tid) (holder .up)) (turn .after)
+    named : OpenedAs opening (newRecord peer (u .tid) (holder .up) (holder .tidnew)) (turn .after)
     unfolding openedTurn arriverOf
-    named = opened-as opening (newRecord peer (u .tid) _) (openedGiven time p) (settingsOf t) (intervalsOf t) live
+    named = opened-as opening (newRecord peer (u .tid) _ _) (openedGiven time p) (settingsOf t) (intervalsOf t) live
 
     responds-so : openedRole opening ≡ Responder
     unfolding arrivalOpening

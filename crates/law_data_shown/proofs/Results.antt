@@ -18,7 +18,7 @@ use Rattle.codec_reading.specs.Read.{pduOf}
 use Rattle.table_layout.specs.Table.{recordAt}
 use Rattle.row_events.specs.declared.Opening.{Opening}
 use Rattle.row_turns.specs.declared.Given.{Given}
-use Rattle.step_commit.specs.declared.TidChange.{TidChange}
+use Rattle.step_commit.specs.declared.GenTidChange.{GenTidChange}
 use Rattle.law_rows.specs.Shown.{takesResult}
 use Rattle.step_shown.specs.Parts.{dataOf}
 use Rattle.step_shown.specs.declared.Source.the-variants.{Datagram}
@@ -85,7 +85,7 @@ module _ (peer tid : ℕ) (place : Place) where
   none-shown : (step : Step) → (stepAborts step || stepResults step) ≡ false → StepShows step result → ⊥
   none-shown step n e = true-false (sym (or-second (stepAborts step) (stepResults step) (results step e)) ∙ n)
 
-  opening-none : (t : List ℕ) (opening : Opening) (h : Holder) (g : Given) (genTid : TidChange) (c : Asked) → StepShows (openingStep t opening h g genTid c) result → ⊥
+  opening-none : (t : List ℕ) (opening : Opening) (h : Holder) (g : Given) (genTid : GenTidChange) (c : Asked) → StepShows (openingStep t opening h g genTid c) result → ⊥
   opening-none t opening h g genTid c s = none-shown (openingStep t opening h g genTid c) (opening-neither t opening h g genTid c) s
 
   state-is : (s : State) → eqb (stateNumber s) (stateNumber IResultWait2) ≡ true → s ≡ IResultWait2

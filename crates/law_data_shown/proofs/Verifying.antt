@@ -134,6 +134,8 @@ isToVerify Opening.Valid2 = false
 isToVerify Opening.ToVerify1 = true
 isToVerify Opening.ToVerify2 = true
 isToVerify Opening.UnknownTidve = false
+isToVerify Opening.Restarted1 = true
+isToVerify Opening.Restarted2 = true
 
 abbrev pub isShown0 : Opening → Bool
 isShown0 Opening.Ignored = false
@@ -150,6 +152,8 @@ isShown0 Opening.Valid2 = false
 isShown0 Opening.ToVerify1 = false
 isShown0 Opening.ToVerify2 = false
 isShown0 Opening.UnknownTidve = false
+isShown0 Opening.Restarted1 = false
+isShown0 Opening.Restarted2 = false
 
 -- the class of the record that an opening leaves, 0 where it leaves none
 abbrev pub opensClass : Opening → ℕ
@@ -167,6 +171,8 @@ opensClass Opening.Valid2 = 2
 opensClass Opening.ToVerify1 = 1
 opensClass Opening.ToVerify2 = 2
 opensClass Opening.UnknownTidve = 0
+opensClass Opening.Restarted1 = 1
+opensClass Opening.Restarted2 = 2
 
 no-invoke : {A : Type 0} (v : Bool) → Indication.Nothing ≡ Indication.Invoke v → A
 no-invoke v e = true-false (sym (ap isInvoke e))
@@ -223,6 +229,8 @@ module _ (r : Record) (g : Given) (s : Settings) (rows : List (List ℕ)) where
   none-writes-none Opening.ToVerify1 e = true-false (sym e)
   none-writes-none Opening.ToVerify2 e = true-false (sym e)
   none-writes-none Opening.UnknownTidve e = refl
+  none-writes-none Opening.Restarted1 e = true-false (sym e)
+  none-writes-none Opening.Restarted2 e = true-false (sym e)
 
   -- a record is in TIDOK WAIT only by an Invoke to be verified, whose data is kept
   pub opens-waiting : (o : Opening) → inTidokWait (openingTurn o r g s rows .after .state) ≡ true → Verifies o (openingTurn o r g s rows) (g .len)
@@ -241,6 +249,8 @@ module _ (r : Record) (g : Given) (s : Settings) (rows : List (List ℕ)) where
   opens-waiting Opening.ToVerify1 e = record { to-verify = refl; written = refl; same-len = refl }
   opens-waiting Opening.ToVerify2 e = record { to-verify = refl; written = refl; same-len = refl }
   opens-waiting Opening.UnknownTidve e = true-false (sym e)
+  opens-waiting Opening.Restarted1 e = record { to-verify = refl; written = refl; same-len = refl }
+  opens-waiting Opening.Restarted2 e = record { to-verify = refl; written = refl; same-len = refl }
 
   -- the class of a record that is opened is that of its opening, and its U/P what it was opened with
   pub opened-class : (o : Opening) → classOf (openingTurn o r g s rows .after .state) ≡ opensClass o
@@ -259,6 +269,8 @@ module _ (r : Record) (g : Given) (s : Settings) (rows : List (List ℕ)) where
   opened-class Opening.ToVerify1 = refl
   opened-class Opening.ToVerify2 = refl
   opened-class Opening.UnknownTidve = refl
+  opened-class Opening.Restarted1 = refl
+  opened-class Opening.Restarted2 = refl
 
   pub opened-ack : (o : Opening) → 1 ≤ opensClass o → openingTurn o r g s rows .after .«user_ack» ≡ r .«user_ack»
   unfolding openingTurn turnOf openingAct actWith stored shown recordAfter movedTo newRecord
@@ -276,6 +288,8 @@ module _ (r : Record) (g : Given) (s : Settings) (rows : List (List ℕ)) where
   opened-ack Opening.ToVerify1 h = refl
   opened-ack Opening.ToVerify2 h = refl
   opened-ack Opening.UnknownTidve h = absurd (omega (arith, h))
+  opened-ack Opening.Restarted1 h = refl
+  opened-ack Opening.Restarted2 h = refl
 
   pub opening-shows : (o : Opening) (v : Bool) → Indicates (openingTurn o r g s rows) (Indication.Invoke v) → ShownAtOnce o (openingTurn o r g s rows .after) v
   unfolding openingTurn turnOf openingAct actWith stored shown recordAfter movedTo newRecord
@@ -293,3 +307,5 @@ module _ (r : Record) (g : Given) (s : Settings) (rows : List (List ℕ)) where
   opening-shows Opening.ToVerify1 v e = no-invokes v e
   opening-shows Opening.ToVerify2 v e = no-invokes v e
   opening-shows Opening.UnknownTidve v e = no-invokes v e
+  opening-shows Opening.Restarted1 v e = no-invokes v e
+  opening-shows Opening.Restarted2 v e = no-invokes v e

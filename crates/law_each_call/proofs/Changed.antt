@@ -8,7 +8,7 @@ use mathlib.Core.List.{List}
 use mathlib.Core.Logic.{_⊎_, inl, inr}
 use lib.ListN.{length, getD}
 use lib.Dec.{eqb}
-use Rattle.base_layout.specs.Layout.{headerSize, genTidAt, rcrMaxAt, cellSize, peers}
+use Rattle.base_layout.specs.Layout.{headerSize, genTidAt, cellSize, peers}
 use Rattle.base_lists.proofs.StoresAndParts.{true-false}
 use Rattle.base_numbers.specs.declared.Refusal.{Refusal}
 use Rattle.table_record.specs.Record.{roleOf, classOf, stateNumber}
@@ -16,7 +16,6 @@ use Rattle.table_record.specs.declared.Record.{Record}
 use Rattle.table_record.specs.declared.State.{State}
 use Rattle.table_record.specs.declared.State.the-variants.{Free}
 use Rattle.table_layout.specs.Table.{count, genTidOf, recordAt, settingsOf, intervalsOf}
-use Rattle.table_tids.specs.Tids.{nextTid}
 use Rattle.table_finding.specs.Finding.{freeOf}
 use Rattle.table_finding.proofs.Searches.{free-found}
 use Rattle.codec_reading.specs.Read.{pduOf}
@@ -28,8 +27,10 @@ use Rattle.row_turns.specs.Turns.{newRecord}
 use Rattle.row_turns.specs.declared.Given.{Given}
 use Rattle.step_commit.specs.Commit.{tableChanged}
 use Rattle.step_commit.specs.declared.Change.the-variants as Change
+use Rattle.step_commit.specs.declared.GenTidChange.{GenTidChange}
+use Rattle.step_commit.specs.declared.GenTidChange.the-variants as GenTidChange
 use Rattle.step_commit.specs.declared.TidChange.{TidChange}
-use Rattle.step_commit.specs.declared.TidChange.the-variants.{Unchanged, Set}
+use Rattle.step_commit.specs.declared.TidChange.the-variants.{Unchanged}
 use Rattle.step_changes.specs.Changes.{turnChanges}
 use Rattle.step_plan.specs.Steps as Steps
 use Rattle.step_plan.specs.Steps.{stepOf, idleChanges, idleStep}
@@ -42,7 +43,7 @@ use Rattle.step_plan.specs.declared.Told.the-variants as Told
 use Rattle.step_live.specs.Turning.{holderOf, liveStep}
 use Rattle.step_opening.specs.Opens.{placeFor, openedTurn, openingChanges, openingStep}
 use Rattle.step_outcome.specs.Carry.{Done, tableThen, carriedOut, outcome}
-use Rattle.call_request.specs.Requests.{requester, requestGiven, requestCall, requestStep}
+use Rattle.call_request.specs.Requests.{requester, countedBy, requestGiven, requestCall, requestStep}
 use Rattle.call_request.specs.declared.Request.{Request}
 use Rattle.call_request.proofs.Accepted.{placeOf, peer-octet}
 use Rattle.call_receive.specs.Receives.{arriverOf, openedGiven, openedCall, openedStep, arrivalOpening, unmatchedStep}
@@ -61,7 +62,7 @@ use Rattle.law_calls.proofs.GenTid.{step-leaves}
 use Rattle.law_history.specs.Trace.{Entry, Promise}
 use Rattle.law_history.specs.Tally.{toldOf, accepted, peerOf}
 use Rattle.law_history.specs.Moves.{before, after}
-use Rattle.law_history.specs.Changed.{OutsideRecord, OutsideCached, OutsideCell, NamedOrFired, ByRequest, OpenedAt, NoneChanged, OneChanged, HeaderKept, CallFramed}
+use Rattle.law_history.specs.Changed.{OutsideRecord, OutsideCached, OutsideGenTid, OutsideCell, NamedOrFired, ByRequest, OpenedAt, NoneChanged, OneChanged, HeaderKept, CallFramed}
 use Rattle.law_one_turn.proofs.Roles.{class-some}
 use Rattle.law_one_turn.proofs.Lived.{its-peer}
 use Rattle.law_data_shown.proofs.Effects.{Left, Effect, done-is, effect}
@@ -136,7 +137,7 @@ module _ (e : Entry) (p : Promise e) (step : Step) (is : planFor (e .call) (e .l
       ap (λ (t : List ℕ). getD t k 0) table-is
       ∙ header-octets k (before e) (step .changes) (e .lent .exit) (sound .allowed .exit-fits) (sound .allowed .peer) past inside (gen-tid gen) (of-peer peer)
     where
-      gen-tid : (isRequest (e .call) ≡ false) ⊎ (rcrMaxAt ≤ k) → (step .changes .«gen_tid» ≡ Unchanged) ⊎ (rcrMaxAt ≤ k)
+      gen-tid : (isRequest (e .call) ≡ false) ⊎ OutsideGenTid k → (step .changes .«gen_tid» ≡ GenTidChange.Unchanged) ⊎ OutsideGenTid k
       gen-tid (inl r) = inl (step-leaves (e .call) (e .lent) step r (f .accepted .way))
       gen-tid (inr h) = inr h
 
@@ -176,7 +177,7 @@ module _ (e : Entry) (p : Promise e) (step : Step) (is : planFor (e .call) (e .l
     lived-framed = framed (inr lived-peer) (inr (k .place, one-changed (k .place) (rw (k .step-is) refl) (inl named)))
 
   -- an opening: no record is left, or one at its place
-  module _ (opening : Opening) (holder : Holder) (g : Given) (genTid : TidChange) (c : Asked) (eq : step ≡ openingStep (before e) opening holder g genTid c) where
+  module _ (opening : Opening) (holder : Holder) (g : Given) (genTid : GenTidChange) (c : Asked) (eq : step ≡ openingStep (before e) opening holder g genTid c) where
     abbrev opened : Record
     opened = openedTurn (before e) opening holder g .after
 
@@ -234,7 +235,7 @@ module _ (e : Entry) (p : Promise e) (step : Step) (is : planFor (e .call) (e .l
     by-request : (r : Record) → r ≡ openedTurn (before e) (requestedOf (q .class % 256)) (requester (before e) place asked) (requestGiven asked) .after → 1 ≤ stateNumber (r .state) → ByRequest e r
     unfolding openedTurn requester newRecord
     by-request r is live =
-        let o = opened-as (requestedOf (q .class % 256)) (newRecord (q .peer % 256) (genTidOf (before e)) (q .userAck)) (requestGiven asked) (settingsOf (before e)) (intervalsOf (before e)) (rw is at live) in
+        let o = opened-as (requestedOf (q .class % 256)) (newRecord (q .peer % 256) (genTidOf (before e)) (q .userAck) _) (requestGiven asked) (settingsOf (before e)) (intervalsOf (before e)) (rw is at live) in
         record {
           asked = ap isRequest (q .call-is);
           role = rw is (o .role ∙ requested-role (q .class % 256));
@@ -252,7 +253,7 @@ module _ (e : Entry) (p : Promise e) (step : Step) (is : planFor (e .call) (e .l
 
     requested-framed : (h : List Entry) → CallFramed e h
     unfolding requestStep requester
-    requested-framed = framed (inr request-peer) (opening-records _ (requester (before e) place asked) (requestGiven asked) (Set (nextTid (genTidOf (before e)))) (requestCall asked) (q .accepted .step-is) opened-at)
+    requested-framed = framed (inr request-peer) (opening-records _ (requester (before e) place asked) (requestGiven asked) (countedBy (before e) asked) (requestCall asked) (q .accepted .step-is) opened-at)
 
   -- that of a PDU without a live record
   module _ (a : Arrived (e .call) (e .lent) step) where
@@ -265,7 +266,7 @@ module _ (e : Entry) (p : Promise e) (step : Step) (is : planFor (e .call) (e .l
     abbrev arriver : Holder
     arriver = arriverOf (placeFor (freeOf t (count t))) (a .unmatched .role) (a .peer) (a .unmatched .tid) (pduOf (e .lent .given) .kind)
 
-    step-is : step ≡ openingStep t arrives arriver (openedGiven (a .time) (pduOf (e .lent .given))) Unchanged (openedCall (pduOf (e .lent .given)))
+    step-is : step ≡ openingStep t arrives arriver (openedGiven (a .time) (pduOf (e .lent .given))) GenTidChange.Unchanged (openedCall (pduOf (e .lent .given)))
     unfolding unmatchedStep openedStep
     step-is = a .step-is
 
@@ -289,7 +290,7 @@ module _ (e : Entry) (p : Promise e) (step : Step) (is : planFor (e .call) (e .l
 
     arrived-framed : (h : List Entry) → CallFramed e h
     unfolding arriverOf
-    arrived-framed = framed (inr arrived-peer) (opening-records arrives arriver (openedGiven (a .time) (pduOf (e .lent .given))) Unchanged (openedCall (pduOf (e .lent .given))) step-is opened-by)
+    arrived-framed = framed (inr arrived-peer) (opening-records arrives arriver (openedGiven (a .time) (pduOf (e .lent .given))) GenTidChange.Unchanged (openedCall (pduOf (e .lent .given))) step-is opened-by)
 
   accepted-framed : Way (e .call) (e .lent) step → (h : List Entry) → CallFramed e h
   accepted-framed (inl i) = idle-framed i

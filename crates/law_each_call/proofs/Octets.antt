@@ -1,25 +1,29 @@
--- The changes of a call, octet by octet: past the header they touch the octets of the record at their place alone, in the header the clock, GenTID where it is set, and the cached TID of their peer. Assumes nothing.
+-- The changes of a call, octet by octet: past the header they touch the octets of the record at their place alone, in the header the clock, GenTID and the flag of TIDnew where they are set, and the cached TID of their peer. Assumes nothing.
 use Prim.Native.Nat.{ℕ, _+_, _*_, _≤_, _<_}
 use native.Mathlib.Omega.{arith}
 use mathlib.Core.Path.{_≡_, refl, _∙_}
 use mathlib.Core.Bool.{Bool, true, false}
-use mathlib.Core.List.{List}
+use mathlib.Core.List.{List, [], _∷_}
 use mathlib.Core.Logic.{_⊎_, inl, inr}
 use lib.ListN.{length, getD, replicate, length-replicate}
-use Rattle.base_layout.specs.Layout.{headerSize, recordSize, genTidAt, rcrMaxAt, cachedAt, base, exitBase, peers, exitBound}
+use Rattle.base_layout.specs.Layout.{headerSize, recordSize, genTidAt, tidnewDueAt, cachedAt, base, exitBase, peers, exitBound}
+use Rattle.base_lists.specs.Seq.{bit, put}
+use Rattle.base_lists.proofs.StoresAndParts.{lt-or-le}
 use Rattle.base_octets.specs.Octets.{enc, Apart}
 use Rattle.base_octets.proofs.StoredAndRead.{length-enc}
 use Rattle.table_record.specs.Record.{octetsOf}
 use Rattle.table_record.proofs.Back.{length-octets}
-use Rattle.table_layout.specs.Table.{putRecord, clearRecord, putGenTid, putCached, putClock}
+use Rattle.table_layout.specs.Table.{putRecord, clearRecord, putGenTid, putTidnewDue, putCached, putClock}
 use Rattle.table_layout.proofs.Apart.{octet-apart}
 use Rattle.step_commit.specs.Commit.{recordChanged, exitStored, genTidChanged, cacheChanged, tableChanged}
 use Rattle.step_commit.specs.declared.Change.{Change}
 use Rattle.step_commit.specs.declared.Change.the-variants.{Nothing, Put, Clear}
+use Rattle.step_commit.specs.declared.GenTidChange.{GenTidChange}
+use Rattle.step_commit.specs.declared.GenTidChange.the-variants as GenTidChange
 use Rattle.step_commit.specs.declared.TidChange.{TidChange}
 use Rattle.step_commit.specs.declared.TidChange.the-variants.{Unchanged, Set}
 use Rattle.step_commit.specs.declared.Changes.{Changes}
-use Rattle.law_history.specs.Changed.{OutsideRecord, OutsideCached}
+use Rattle.law_history.specs.Changed.{OutsideRecord, OutsideCached, OutsideGenTid}
 
 module _ (k : ℕ) where
   abbrev Same : List ℕ → List ℕ → Type 0
@@ -36,11 +40,21 @@ module _ (k : ℕ) where
   cached-same t peer (Set v) (inr (inl h)) = octet-apart t (cachedAt + peer * 2) (enc 2 v) k (inl (omega arith))
   cached-same t peer (Set v) (inr (inr h)) = octet-apart t (cachedAt + peer * 2) (enc 2 v) k (inr (omega (arith, length-enc 2 v)))
 
-  gen-tid-same : (t : List ℕ) (c : TidChange) → (c ≡ Unchanged) ⊎ (rcrMaxAt ≤ k) → Same t (genTidChanged t c)
-  unfolding genTidChanged putGenTid
+  -- past the header lies neither
+  past-gen-tid : headerSize ≤ k → OutsideGenTid k
+  past-gen-tid h = (omega arith, λ e. omega (arith, e))
+
+  off-due : (k ≡ tidnewDueAt → ⊥) → (k < tidnewDueAt) ⊎ (tidnewDueAt ≤ k) → Apart k 1 tidnewDueAt 1
+  off-due d (inl h) = inl (omega arith)
+  off-due d (inr h) = inr (omega (arith, d))
+
+  gen-tid-same : (t : List ℕ) (c : GenTidChange) → (c ≡ GenTidChange.Unchanged) ⊎ OutsideGenTid k → Same t (genTidChanged t c)
+  unfolding genTidChanged putGenTid putTidnewDue
   gen-tid-same t c (inl e) = rw e refl
-  gen-tid-same t Unchanged (inr h) = refl
-  gen-tid-same t (Set v) (inr h) = octet-apart t 8 (enc 2 v) k (inr (omega (arith, length-enc 2 v)))
+  gen-tid-same t GenTidChange.Unchanged (inr h) = refl
+  gen-tid-same t (GenTidChange.Set v due) (inr h) =
+      octet-apart (put t 8 (enc 2 v)) tidnewDueAt (bit due ∷ []) k (off-due (h .1) (lt-or-le k tidnewDueAt))
+      ∙ octet-apart t 8 (enc 2 v) k (inr (omega (arith, h .0, length-enc 2 v)))
 
   -- a store within a record is apart from what lies outside it
   off : (place start n : ℕ) → base place ≤ start → start + n ≤ base place + recordSize → OutsideRecord place k → Apart k 1 start n
@@ -66,7 +80,7 @@ module _ (k : ℕ) where
     other-octets past o =
         clock-same _ (c .time) (omega arith)
         ∙ (cached-same _ (c .peer) (c .cached) (inr (inr (omega (arith, peer))))
-        ∙ (gen-tid-same _ (c .«gen_tid») (inr (omega arith))
+        ∙ (gen-tid-same _ (c .«gen_tid») (inr (past-gen-tid past))
         ∙ (exit-same _ (c .place) (c .exit) exit fits o ∙ changed-same t (c .place) (c .change) o)))
 
     -- and where no record changes every octet of all
@@ -75,10 +89,10 @@ module _ (k : ℕ) where
     all-octets none unstored past =
         clock-same _ (c .time) (omega arith)
         ∙ (cached-same _ (c .peer) (c .cached) (inr (inr (omega (arith, peer))))
-        ∙ (gen-tid-same _ (c .«gen_tid») (inr (omega arith)) ∙ rw (none, unstored) refl))
+        ∙ (gen-tid-same _ (c .«gen_tid») (inr (past-gen-tid past)) ∙ rw (none, unstored) refl))
 
     -- in the header
-    pub header-octets : genTidAt ≤ k → k < headerSize → (c .«gen_tid» ≡ Unchanged) ⊎ (rcrMaxAt ≤ k) → (c .cached ≡ Unchanged) ⊎ OutsideCached (c .peer) k → Same t (tableChanged t c exit)
+    pub header-octets : genTidAt ≤ k → k < headerSize → (c .«gen_tid» ≡ GenTidChange.Unchanged) ⊎ OutsideGenTid k → (c .cached ≡ Unchanged) ⊎ OutsideCached (c .peer) k → Same t (tableChanged t c exit)
     unfolding tableChanged
     header-octets past inside gen cached =
         clock-same _ (c .time) past

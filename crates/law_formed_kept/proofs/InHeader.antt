@@ -1,18 +1,19 @@
--- A store of the clock, of GenTID or of a cached TID leaves a well-formed table well formed. Assumes nothing.
+-- A store of the clock, of GenTID, of the flag of TIDnew or of a cached TID leaves a well-formed table well formed. Assumes nothing.
 use mathlib.Core.Path.{_≡_, _∙_}
-use mathlib.Core.List.{List}
+use mathlib.Core.List.{List, [], _∷_}
+use mathlib.Core.Bool.{Bool}
 use mathlib.Core.Logic.{_⊎_, inl, inr}
 use Prim.Native.Nat.{ℕ, _+_, _*_, _≤_, _<_}
 use native.Mathlib.Omega.{arith}
-use lib.ListN.{length}
-use Rattle.base_layout.specs.Layout.{headerSize, cachedAt, headerSpareAt, timeBound, tidBound, cachedBound, peers}
-use Rattle.base_lists.specs.Seq.{put}
-use Rattle.base_lists.proofs.StoresAndParts.{length-put}
+use lib.ListN.{length, getD}
+use Rattle.base_layout.specs.Layout.{headerSize, cachedAt, tidnewDueAt, headerSpare1At, headerSpare2At, timeBound, tidBound, cachedBound, peers}
+use Rattle.base_lists.specs.Seq.{bit, put}
+use Rattle.base_lists.proofs.StoresAndParts.{bit-le, length-put}
 use Rattle.base_octets.specs.Octets.{enc, Apart}
 use Rattle.base_octets.proofs.StoredAndRead.{getD-before, getD-after, apart-rows, length-enc}
-use Rattle.table_layout.specs.Table.{settingsOf, cachedOf, recordAt, clockOf, genTidOf, putClock, putGenTid, putCached}
+use Rattle.table_layout.specs.Table.{settingsOf, cachedOf, recordAt, clockOf, genTidOf, putClock, putGenTid, putTidnewDue, putCached}
 use Rattle.table_layout.proofs.Apart.{clock-apart, gen-tid-apart, settings-apart, rows-apart, cached-apart, record-apart}
-use Rattle.table_layout.proofs.Put.{clock-same, gen-tid-same, cached-same}
+use Rattle.table_layout.proofs.Put.{clock-same, gen-tid-same, tidnew-due-octet, cached-same}
 use Rattle.table_header_ok.specs.Header.{HeaderOk}
 use Rattle.table_well_formed.specs.WellFormed.{WellFormed}
 use Rattle.law_formed_kept.proofs.InRecord.{equal-or, sized-same, record-same}
@@ -41,7 +42,9 @@ module _ (t : List ℕ) (at : ℕ) (w : List ℕ) where
     clock = c;
     gen-tid = g;
     settings = rw s (f .header .settings);
-    spare = λ k l. getD-after w t at (headerSpareAt + k) (omega arith) ∙ f .header .spare k l;
+    tidnew-due = rw (getD-after w t at tidnewDueAt (omega arith)) (f .header .tidnew-due);
+    spare-1 = λ k l. getD-after w t at (headerSpare1At + k) (omega arith) ∙ f .header .spare-1 k l;
+    spare-2 = λ k l. getD-after w t at (headerSpare2At + k) (omega arith) ∙ f .header .spare-2 k l;
     rows = rw (rows-apart t at w (inr (omega arith))) (f .header .rows);
     cached = λ p l. rw (cached-apart t at w p (inr (omega arith))) (f .header .cached p l);
   }) where
@@ -54,7 +57,9 @@ module _ (t : List ℕ) (at : ℕ) (w : List ℕ) where
     clock = rw (clock-apart t at w (omega arith)) (f .header .clock);
     gen-tid = rw (gen-tid-apart t at w (inl (omega arith))) (f .header .gen-tid);
     settings = rw s (f .header .settings);
-    spare = λ k l. getD-before w t at (headerSpareAt + k) (omega arith) ∙ f .header .spare k l;
+    tidnew-due = rw (getD-before w t at tidnewDueAt (omega arith)) (f .header .tidnew-due);
+    spare-1 = λ k l. getD-before w t at (headerSpare1At + k) (omega arith) ∙ f .header .spare-1 k l;
+    spare-2 = λ k l. getD-before w t at (headerSpare2At + k) (omega arith) ∙ f .header .spare-2 k l;
     rows = rw (rows-apart t at w (inl (omega arith))) (f .header .rows);
     cached = c;
   }) where
@@ -74,6 +79,23 @@ gen-tid-keeps t v f l =
     let n : length (enc 2 v) ≡ 2 = length-enc 2 v in
     let e : genTidOf (put t 8 (enc 2 v)) ≡ v = gen-tid-same t v (omega (arith, f .sized .whole)) (omega arith) in
     before-settings t 8 (enc 2 v) (omega arith) f (rw (clock-apart t 8 (enc 2 v) (omega arith)) (f .header .clock)) (rw e l)
+
+pub tidnew-due-keeps : (t : List ℕ) (due : Bool) → WellFormed t → WellFormed (putTidnewDue t due)
+unfolding putTidnewDue
+tidnew-due-keeps t due f =
+    let w : List ℕ = bit due ∷ [] in
+    let octet : getD (put t tidnewDueAt w) tidnewDueAt 0 ≡ bit due = tidnew-due-octet t due (omega (arith, f .sized .whole)) in
+    let s : settingsOf (put t tidnewDueAt w) ≡ settingsOf t = settings-apart t tidnewDueAt w (inl (omega arith)) in
+    header-keeps t tidnewDueAt w (omega arith) f s (record {
+      clock = rw (clock-apart t tidnewDueAt w (omega arith)) (f .header .clock);
+      gen-tid = rw (gen-tid-apart t tidnewDueAt w (inl (omega arith))) (f .header .gen-tid);
+      settings = rw s (f .header .settings);
+      tidnew-due = rw octet (bit-le due);
+      spare-1 = λ k l. getD-before w t tidnewDueAt (headerSpare1At + k) (omega arith) ∙ f .header .spare-1 k l;
+      spare-2 = λ k l. getD-after w t tidnewDueAt (headerSpare2At + k) (omega arith) ∙ f .header .spare-2 k l;
+      rows = rw (rows-apart t tidnewDueAt w (inl (omega arith))) (f .header .rows);
+      cached = λ p l. rw (cached-apart t tidnewDueAt w p (inr (omega arith))) (f .header .cached p l);
+    })
 
 pub cached-keeps : (t : List ℕ) (p v : ℕ) → WellFormed t → p < peers → v ≤ cachedBound → WellFormed (putCached t p v)
 unfolding putCached

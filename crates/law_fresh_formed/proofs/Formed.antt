@@ -1,7 +1,7 @@
 -- A table that the fresh-table call accepted is well formed, with no live record and nothing cached. Assumes nothing.
 use Prim.Native.Nat.{ℕ, zero, suc, _+_, _≤_, _<_}
 use native.Mathlib.Omega.{arith}
-use mathlib.Core.Path.{_≡_, sym, ap, _∙_}
+use mathlib.Core.Path.{_≡_, refl, sym, ap, _∙_}
 use mathlib.Core.List.{List, [], _∷_}
 use mathlib.Core.Logic.{inl}
 use lib.ListN.{length}
@@ -9,7 +9,7 @@ use Rattle.base_layout.specs.Layout.{base}
 use Rattle.base_lists.specs.Seq.{tab}
 use Rattle.base_lists.proofs.StoresAndParts.{getD-tab}
 use Rattle.table_record.specs.Record.{stateNumber}
-use Rattle.table_layout.specs.Table.{count, settingsOf, recordAt}
+use Rattle.table_layout.specs.Table.{count, settingsOf, recordAt, tidnewDueOf}
 use Rattle.table_ranges.specs.Ranges.{Interval}
 use Rattle.table_header_ok.specs.Header.{SettingsOk, RowsOk, HeaderOk}
 use Rattle.table_record_ok.specs.OneRecord.{Live}
@@ -41,7 +41,9 @@ module _ (ws : List ℕ) (first : ℕ) (a : AllInRange ws first) where
       clock = omega (arith, f .clock);
       gen-tid = omega (arith, f .gen-tid, a .gen-tid);
       settings = settings-ok;
-      spare = λ k h. f .spare (92 + k) (omega arith) (omega arith);
+      tidnew-due = omega (arith, f .tidnew-due);
+      spare-1 = λ k h. f .spare-1 (92 + k) (omega arith) (omega arith);
+      spare-2 = λ k h. f .spare-2 (98 + k) (omega arith);
       rows = rw (f .rows) rows-ok;
       cached = λ peer h. omega (arith, f .cached peer);
     }
@@ -68,7 +70,7 @@ module _ (t ws : List ℕ) (first : ℕ) (made : freshAnswer (length t) ws first
   f = fresh-facts n ws first a
 
   pub fresh-ok : FreshOk t (tableAfterFresh Made t ws first) first
-  unfolding tableAfterFresh
+  unfolding tableAfterFresh tidnewDueOf
   fresh-ok =
       let s = size-told (length t) (accepted (length t) ws first made .0) in
       let l : length (freshTable n ws first) ≡ base n = fresh-length n ws first in
@@ -80,4 +82,5 @@ module _ (t ws : List ℕ) (first : ℕ) (made : freshAnswer (length t) ws first
         nothing-cached = f .cached;
         clock = f .clock;
         gen-tid = f .gen-tid;
+        tidnew-due = rw (f .tidnew-due) refl;
       }

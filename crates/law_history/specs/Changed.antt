@@ -5,7 +5,7 @@ use mathlib.Core.Bool.{Bool, true, false}
 use mathlib.Core.List.{List}
 use mathlib.Core.Logic.{_⊎_}
 use lib.ListN.{length, getD}
-use Rattle.base_layout.specs.Layout.{headerSize, recordSize, genTidAt, rcrMaxAt, cachedAt, base, cellSize}
+use Rattle.base_layout.specs.Layout.{headerSize, recordSize, genTidAt, rcrMaxAt, tidnewDueAt, cachedAt, base, cellSize}
 use Rattle.table_record.specs.Record.{roleOf, classOf}
 use Rattle.table_record.specs.declared.Role.the-variants.{Initiator, Responder}
 use Rattle.table_record.specs.declared.Record.{Record}
@@ -29,6 +29,10 @@ OutsideRecord place k = (k < base place) ⊎ (base place + recordSize ≤ k)
 
 abbrev pub OutsideCached : ℕ → ℕ → Type 0
 OutsideCached peer k = (k < cachedAt + peer * 2) ⊎ (cachedAt + peer * 2 + 2 ≤ k)
+
+-- not in GenTID, and not in the flag of TIDnew that is counted with it (02, L2)
+abbrev pub OutsideGenTid : ℕ → Type 0
+OutsideGenTid k = (rcrMaxAt ≤ k) × (k ≡ tidnewDueAt → ⊥)
 
 -- an octet of the store lies outside the cell of a place
 abbrev pub OutsideCell : ℕ → ℕ → Type 0
@@ -82,9 +86,9 @@ pub record OneChanged (e : Entry) (place : ℕ) : Type 0 where
   pub records : (k : ℕ) → headerSize ≤ k → OutsideRecord place k → getD (after e) k 0 ≡ getD (before e) k 0
   pub store : (k : ℕ) → OutsideCell place k → getD (e .done .store) k 0 ≡ getD (e .lent .store) k 0
 
--- of the header only the clock, GenTID by a request, and the cached TID of the peer of the call
+-- of the header only the clock, GenTID and the flag of TIDnew by a request, and the cached TID of the peer of the call
 abbrev pub HeaderKept : Entry → Type 0
-HeaderKept e = (k : ℕ) → genTidAt ≤ k → k < headerSize → (isRequest (e .call) ≡ false) ⊎ (rcrMaxAt ≤ k) → OutsideCached (peerOf (e .call) (e .done .answer)) k → getD (after e) k 0 ≡ getD (before e) k 0
+HeaderKept e = (k : ℕ) → genTidAt ≤ k → k < headerSize → (isRequest (e .call) ≡ false) ⊎ OutsideGenTid k → OutsideCached (peerOf (e .call) (e .done .answer)) k → getD (after e) k 0 ≡ getD (before e) k 0
 
 -- "A refusal gives only its number and changes no lent byte"
 abbrev pub Untouched : Entry → Type 0

@@ -69,8 +69,8 @@ pub record Turned (e : Entry) : Type 0 where
   pub rest : OthersSame e place
 
 -- the turn of a record that is opened under a name
-abbrev pub openedTurn : Entry → Opening → Name → Bool → Given → Turn
-openedTurn e opening name userAck given = openingTurn opening (newRecord (name .peer) (name .tid) userAck) given (settingsOf (before e)) (intervalsOf (before e))
+abbrev pub openedTurn : Entry → Opening → Name → Bool → Bool → Given → Turn
+openedTurn e opening name userAck tidnew given = openingTurn opening (newRecord (name .peer) (name .tid) userAck tidnew) given (settingsOf (before e)) (intervalsOf (before e))
 
 -- a record is opened at a free place under a name that no live record had
 pub record Opened (e : Entry) : Type 0 where
@@ -78,17 +78,18 @@ pub record Opened (e : Entry) : Type 0 where
   pub place : ℕ
   pub opening : Opening
   pub userAck : Bool
+  pub tidnew : Bool
   pub given : Given
   pub given-ok : GivenOk given
   pub inside : place < count (before e)
   pub was-free : recordAt (before e) place .state ≡ Free
   pub unused : lives (before e) name ≡ false
-  pub live : Live (openedTurn e opening name userAck given .after)
-  pub named : nameOf (openedTurn e opening name userAck given .after) ≡ name
+  pub live : Live (openedTurn e opening name userAck tidnew given .after)
+  pub named : nameOf (openedTurn e opening name userAck tidnew given .after) ≡ name
   pub opened : opens e name ≡ true
-  pub own : adds e name ≡ turnAdds (openedTurn e opening name userAck given)
+  pub own : adds e name ≡ turnAdds (openedTurn e opening name userAck tidnew given)
   pub others : (n : Name) → (n ≡ name → ⊥) → Silent e n
-  pub put : recordAt (after e) place ≡ openedTurn e opening name userAck given .after
+  pub put : recordAt (after e) place ≡ openedTurn e opening name userAck tidnew given .after
   pub rest : OthersSame e place
 
 -- a request of class 0: one Invoke, no record

@@ -46,7 +46,7 @@ none-aborted RResultRespWait rcr holdOn = refl
 none-aborted RWaitTimeout rcr holdOn = refl
 
 -- a freed record isn't live
-freed-is-dead : (r : Record) → r ≡ newRecord 0 0 false → Live r → ⊥
+freed-is-dead : (r : Record) → r ≡ newRecord 0 0 false false → Live r → ⊥
 unfolding newRecord
 freed-is-dead r e live = not-free (r .state) live (ap (λ (x : Record). x .state) e)
 
@@ -188,10 +188,10 @@ module _ (max : ℕ) (e : Entry) (h : List Entry) (v : Inv max (before e) h) (a 
 
   module _ (m : Opened e) where
     abbrev first : Turn
-    first = openedTurn e (m .opening) (m .name) (m .userAck) (m .given)
+    first = openedTurn e (m .opening) (m .name) (m .userAck) (m .tidnew) (m .given)
 
     new-tallied : Tallied max (first .after) (turnAdds first)
-    new-tallied = within-max (first .after) (turnAdds first) (opening-fits (m .given) (settingsOf t) (intervalsOf t) (m .opening) (m .name .peer) (m .name .tid) (m .userAck))
+    new-tallied = within-max (first .after) (turnAdds first) (opening-fits (m .given) (settingsOf t) (intervalsOf t) (m .opening) (m .name .peer) (m .name .tid) (m .userAck) (m .tidnew))
 
     new-tally : tally (e ∷ h) (m .name) ≡ turnAdds first
     new-tally = starts-anew e h (m .name) (turnAdds first) (m .opened) (m .own)
@@ -210,7 +210,7 @@ module _ (max : ℕ) (e : Entry) (h : List Entry) (v : Inv max (before e) h) (a 
     opened-keeps = record {
       inv = next-inv each-says (by-name (λ n. Limits max (tally (e ∷ h) n)) (m .name) (m .others) (rw new-tally (new-tallied .limits)) silent-limits);
       calm = by-name CalmAt (m .name) (m .others) (λ shut b. true-false (sym (m .opened) ∙ shut)) silent-calm;
-      alone = by-name AloneAt (m .name) (m .others) (rw (m .own) (opening-alone (newRecord (m .name .peer) (m .name .tid) (m .userAck)) (m .given) (settingsOf t) (intervalsOf t) (m .opening))) silent-alone;
+      alone = by-name AloneAt (m .name) (m .others) (rw (m .own) (opening-alone (newRecord (m .name .peer) (m .name .tid) (m .userAck) (m .tidnew)) (m .given) (settingsOf t) (intervalsOf t) (m .opening))) silent-alone;
     }
 
   -- any move

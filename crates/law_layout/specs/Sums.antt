@@ -1,9 +1,9 @@
 -- The layout and the bounds once more: where each field begins, by the octets of those before it, and each bound by what it comes from.
 use Prim.Native.Nat.{ℕ, _+_, _*_}
 use mathlib.Core.Path.{_≡_}
-use Rattle.base_layout.specs.Layout.{headerSize, recordSize, clockAt, genTidAt, rcrMaxAt, aecMaxAt, aAt, wAt, row1At, row2At, headerSpareAt, headerSpareSize, cachedAt, peerOffset, tidOffset, rcrOffset, aecOffset, flagsOffset, exitLenOffset, deadlineOffset, lenOffset, spareOffset, spareSize, exitOffset, exitBound, timeBound, intervalBound, deadlineBound, tidBound, tidCount, cachedBound, peerBound, peers, cellSize, outputLeast, stateBound, flagsBound}
+use Rattle.base_layout.specs.Layout.{headerSize, recordSize, clockAt, genTidAt, rcrMaxAt, aecMaxAt, aAt, wAt, row1At, row2At, headerSpare1At, headerSpare1Size, tidnewDueAt, headerSpare2At, headerSpare2Size, cachedAt, peerOffset, tidOffset, rcrOffset, aecOffset, flagsOffset, exitLenOffset, deadlineOffset, lenOffset, spareOffset, spareSize, exitOffset, exitBound, timeBound, intervalBound, deadlineBound, tidBound, tidCount, cachedBound, peerBound, peers, cellSize, outputLeast, stateBound, flagsBound}
 
--- docs/TABLE.md, the header: clock 8 octets, GenTID 2, RCR_MAX 1, AEC_MAX 1, A 4, W 4, two rows of nine intervals of 4, spare, 256 cached TIDs of 2
+-- docs/TABLE.md, the header: clock 8 octets, GenTID 2, RCR_MAX 1, AEC_MAX 1, A 4, W 4, two rows of nine intervals of 4, spare, TIDnew due 1, spare, 256 cached TIDs of 2
 pub record HeaderAdds : Type 0 where
   pub gen-tid : genTidAt ≡ clockAt + 8
   pub rcr-max : rcrMaxAt ≡ genTidAt + 2
@@ -12,8 +12,10 @@ pub record HeaderAdds : Type 0 where
   pub w : wAt ≡ aAt + 4
   pub row-1 : row1At ≡ wAt + 4
   pub row-2 : row2At ≡ row1At + 9 * 4
-  pub spare : headerSpareAt ≡ row2At + 9 * 4
-  pub cached : cachedAt ≡ headerSpareAt + headerSpareSize
+  pub spare-1 : headerSpare1At ≡ row2At + 9 * 4
+  pub tidnew-due : tidnewDueAt ≡ headerSpare1At + headerSpare1Size
+  pub spare-2 : headerSpare2At ≡ tidnewDueAt + 1
+  pub cached : cachedAt ≡ headerSpare2At + headerSpare2Size
   pub whole : headerSize ≡ cachedAt + peers * 2
 
 -- docs/TABLE.md, a record: state 1 octet, peer 1, TID 2, RCR 1, AEC 1, flags 1, length of the exit information 1, deadline 8, length of the message 4, spare, exit information
@@ -31,7 +33,7 @@ pub record RecordAdds : Type 0 where
   pub whole : recordSize ≡ exitOffset + exitBound
 
 -- 01, "What the reader carries" and "TIDs": an interval is a day at the most, times are 12 digits of milliseconds, TIDs have 15 bits, a peer is an octet,
--- the output holds an Invoke's four octets and a full message; docs/TABLE.md: four initiator and seven responder states, four flags
+-- the output holds an Invoke's four octets and a full message; docs/TABLE.md: four initiator and seven responder states, five flags
 pub record BoundsFrom : Type 0 where
   pub interval : intervalBound ≡ 24 * 60 * 60 * 1000
   pub time : timeBound ≡ 1000 * 1000 * 1000 * 1000
@@ -43,4 +45,4 @@ pub record BoundsFrom : Type 0 where
   pub octet : peers ≡ 16 * 16
   pub output : outputLeast ≡ 4 + cellSize
   pub states : stateBound ≡ 4 + 7
-  pub flags : flagsBound ≡ 1 + 2 + 4 + 8
+  pub flags : flagsBound ≡ 1 + 2 + 4 + 8 + 16

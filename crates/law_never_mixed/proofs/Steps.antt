@@ -15,7 +15,7 @@ use Rattle.law_rows.proofs.Rows.{abort-is-no-result, result-exactly, opening-sh
 use Rattle.row_turns.specs.Turns.{turnOf, rowTurn, openingTurn}
 use Rattle.row_turns.specs.declared.Given.{Given}
 use Rattle.row_turns.specs.declared.Turn.{Turn}
-use Rattle.step_commit.specs.declared.TidChange.{TidChange}
+use Rattle.step_commit.specs.declared.GenTidChange.{GenTidChange}
 use Rattle.step_commit.specs.declared.Changes.{Changes}
 use Rattle.step_shown.specs.Shows.{shownOf}
 use Rattle.step_shown.specs.declared.Context.{Context}
@@ -74,7 +74,7 @@ module _ (t : List ℕ) (place : ℕ) (event : Event) (g : Given) (c : Call) whe
   pub live-result-exactly : stepResults (liveStep t place event g c) ≡ takesResult (recordAt t place .state) event
   live-result-exactly = live-results ∙ result-exactly (g .kind) (g .reason) (recordAt t place .«tidok_sent») (recordAt t place .state) event _
 
-module _ (t : List ℕ) (opening : Opening) (h : Holder) (g : Given) (genTid : TidChange) (c : Call) where
+module _ (t : List ℕ) (opening : Opening) (h : Holder) (g : Given) (genTid : GenTidChange) (c : Call) where
   -- what comes without a live record shows neither
   pub opening-neither : stepAborts (openingStep t opening h g genTid c) || stepResults (openingStep t opening h g genTid c) ≡ false
   unfolding openingStep openedTurn openingTurn turnOf

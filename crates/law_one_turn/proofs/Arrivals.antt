@@ -17,7 +17,7 @@ use Rattle.table_layout.specs.declared.Settings.{Settings}
 use Rattle.codec_pdu.specs.declared.Pdu.{Pdu}
 use Rattle.row_events.specs.declared.Opening.{Opening}
 use Rattle.row_events.specs.declared.Opening.the-variants as Opening
-use Rattle.row_choice.specs.Rows.{invoke0Of, invoke12Of, openingOf}
+use Rattle.row_choice.specs.Rows.{invoke0Of, byClass, invoke12Of, openingOf}
 use Rattle.row_choice.specs.declared.Arrived.{Arrived}
 use Rattle.step_arrivals.specs.Arrivals.{wantedOf, arrivedOf}
 use Rattle.row_columns.specs.Columns.{actWith, stored, shown}
@@ -51,6 +51,8 @@ arrivesAs zero Opening.Valid2 = not zero
 arrivesAs zero Opening.ToVerify1 = not zero
 arrivesAs zero Opening.ToVerify2 = not zero
 arrivesAs zero Opening.UnknownTidve = true
+arrivesAs zero Opening.Restarted1 = not zero
+arrivesAs zero Opening.Restarted2 = not zero
 
 abbrev Arrives : Bool → Opening → Type 0
 Arrives zero o = arrivesAs zero o ≡ true
@@ -60,11 +62,12 @@ module _ (a : Arrived) where
   other zero = picked (Arrives zero) (a .malformed) _ _ refl (picked (Arrives zero) (a .tidve) _ _ refl refl)
 
   of-class : (zero : Bool) → arrivesAs zero (pick zero (invoke0Of a) (invoke12Of a)) ≡ true
-  unfolding invoke0Of invoke12Of
+  unfolding invoke0Of byClass invoke12Of
   of-class true = picked (Arrives true) (a .«wrong_version») _ _ refl (picked (Arrives true) (a .«ttr_clear») _ _ refl (picked (Arrives true) (a .«too_long») _ _ refl refl))
   of-class false =
       picked (Arrives false) (a .«wrong_version») _ _ refl (picked (Arrives false) (a .«ttr_clear») _ _ refl (picked (Arrives false) (a .«too_long») _ _ refl (picked (Arrives false) (a .full) _ _ refl
-      (picked (Arrives false) (a .valid) _ _ (picked (Arrives false) (eqb (a .class) 1) _ _ refl refl) (picked (Arrives false) (eqb (a .class) 1) _ _ refl refl)))))
+      (picked (Arrives false) (a .tidnew) _ _ (picked (Arrives false) (eqb (a .class) 1) _ _ refl refl)
+      (picked (Arrives false) (a .valid) _ _ (picked (Arrives false) (eqb (a .class) 1) _ _ refl refl) (picked (Arrives false) (eqb (a .class) 1) _ _ refl refl))))))
 
   arrives-as : arrivesAs (eqb (a .class) 0) (openingOf a) ≡ true
   unfolding openingOf
@@ -127,6 +130,8 @@ either class Opening.Valid2 e = opens-one class Opening.Valid2 e refl (λ r g s 
 either class Opening.ToVerify1 e = opens-one class Opening.ToVerify1 e refl (λ r g s rows. omega arith)
 either class Opening.ToVerify2 e = opens-one class Opening.ToVerify2 e refl (λ r g s rows. omega arith)
 either class Opening.UnknownTidve e = inl (quiet class Opening.UnknownTidve refl (λ r. refl) refl refl refl)
+either class Opening.Restarted1 e = opens-one class Opening.Restarted1 e refl (λ r g s rows. omega arith)
+either class Opening.Restarted2 e = opens-one class Opening.Restarted2 e refl (λ r g s rows. omega arith)
 
 -- a PDU without a live record
 pub arrival : (t : List ℕ) (peer tid : ℕ) (s : List ℕ) (p : Pdu)

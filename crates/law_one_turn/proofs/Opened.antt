@@ -22,7 +22,7 @@ use Rattle.row_turns.specs.Turns.{newRecord, recordAfter, turnOf, openingTurn}
 use Rattle.row_turns.specs.declared.Given.{Given}
 use Rattle.row_turns.specs.declared.Turn.{Turn}
 use Rattle.step_commit.specs.declared.Change.the-variants as Change
-use Rattle.step_commit.specs.declared.TidChange.{TidChange}
+use Rattle.step_commit.specs.declared.GenTidChange.{GenTidChange}
 use Rattle.step_changes.specs.Changes.{changeOf}
 use Rattle.step_plan.specs.Steps.{stepOf}
 use Rattle.step_plan.specs.declared.Holder.{Holder}
@@ -45,7 +45,7 @@ use Rattle.law_one_turn.proofs.Counted.{entryOf, turn-adds}
 use Rattle.law_one_turn.proofs.Openings.{CalledBy, called-name, not-opened, still-lived, same-lived}
 use Rattle.law_one_turn.proofs.Left.{left-put, left-others, left-same, left-count}
 
-module _ (call : Call) (l : Lent) (opening : Opening) (h : Holder) (g : Given) (genTid : TidChange) (c : Asked) where
+module _ (call : Call) (l : Lent) (opening : Opening) (h : Holder) (g : Given) (genTid : GenTidChange) (c : Asked) where
   abbrev t : List ℕ
   t = l .table
 
@@ -105,9 +105,9 @@ module _ (call : Call) (l : Lent) (opening : Opening) (h : Holder) (g : Given) (
       unfolding openingStep stepOf openingChanges
       is-rest = left-others call l step (k .fits) (k .sound)
 
-      as-opened : OpenedAs opening (newRecord (h .peer) (h .tid) (h .up)) (turn .after)
+      as-opened : OpenedAs opening (newRecord (h .peer) (h .tid) (h .up) (h .tidnew)) (turn .after)
       unfolding openedTurn
-      as-opened = opened-as opening (newRecord (h .peer) (h .tid) (h .up)) g (settingsOf t) (intervalsOf t) live
+      as-opened = opened-as opening (newRecord (h .peer) (h .tid) (h .up) (h .tidnew)) g (settingsOf t) (intervalsOf t) live
 
       is-named : nameOf (turn .after) ≡ own
       unfolding newRecord
@@ -130,6 +130,7 @@ module _ (call : Call) (l : Lent) (opening : Opening) (h : Holder) (g : Given) (
         place = h .place;
         opening = opening;
         userAck = h .up;
+        tidnew = h .tidnew;
         given = g;
         given-ok = given;
         inside = inside;
@@ -145,12 +146,12 @@ module _ (call : Call) (l : Lent) (opening : Opening) (h : Holder) (g : Given) (
       }
 
 -- an opening that ends changes no record
-pub ends-none : (t : List ℕ) (opening : Opening) (h : Holder) (g : Given) (genTid : TidChange) (c : Asked) → openingAct opening .next ≡ Ends
+pub ends-none : (t : List ℕ) (opening : Opening) (h : Holder) (g : Given) (genTid : GenTidChange) (c : Asked) → openingAct opening .next ≡ Ends
     → openingStep t opening h g genTid c .changes .change ≡ Change.Nothing
 unfolding openingStep stepOf openingChanges changeOf openedTurn openingTurn turnOf recordAfter newRecord
 ends-none t opening h g genTid c e = rw e refl
 
-module _ (call : Call) (l : Lent) (h : Holder) (g : Given) (genTid : TidChange) (c : Asked) (k : OpensFor call l Opening.Requested0 h g genTid c) where
+module _ (call : Call) (l : Lent) (h : Holder) (g : Given) (genTid : GenTidChange) (c : Asked) (k : OpensFor call l Opening.Requested0 h g genTid c) where
   one-invoke : turnAdds (openedTurn (l .table) Opening.Requested0 h g) ≡ requested 1 0 0
   unfolding openedTurn openingTurn turnOf openingAct actWith
   one-invoke = refl

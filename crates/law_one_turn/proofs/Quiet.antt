@@ -12,7 +12,7 @@ use Rattle.row_entries.specs.Acts.{openingAct}
 use Rattle.row_turns.specs.Turns.{turnOf, openingTurn}
 use Rattle.row_turns.specs.declared.Given.{Given}
 use Rattle.law_rows.proofs.Rows.{proper-opening}
-use Rattle.step_commit.specs.declared.TidChange.{TidChange}
+use Rattle.step_commit.specs.declared.GenTidChange.{GenTidChange}
 use Rattle.step_sending.specs.Octets.{octetsSent}
 use Rattle.step_shown.specs.Shows.{shownOf}
 use Rattle.step_plan.specs.Steps.{contextOf, idleChanges, idleStep}
@@ -62,7 +62,7 @@ module _ (call : Call) (l : Lent) (time : ℕ) (f : Fits l) (ok : Sound l (idleS
   idle asked = still call l (idleStep time) f ok asked idle-same idle-adds
 
 -- an opening that leaves no record
-module _ (call : Call) (l : Lent) (opening : Opening) (h : Holder) (g : Given) (genTid : TidChange) (c : Asked) (q : CountsNone (h .class) opening)
+module _ (call : Call) (l : Lent) (opening : Opening) (h : Holder) (g : Given) (genTid : GenTidChange) (c : Asked) (q : CountsNone (h .class) opening)
     (f : Fits l) (ok : Sound l (openingStep (l .table) opening h g genTid c)) (tid : h .tid ≤ tidBound)
     (peer : peerOf call (carriedOut l (openingStep (l .table) opening h g genTid c) .answer) ≡ h .peer) where
   nothing-counts : (b : Bool) → plus (pick b (ofSend (openingAct opening .send)) none) (plus none none) ≡ none

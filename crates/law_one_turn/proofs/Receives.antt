@@ -17,7 +17,7 @@ use Rattle.row_events.specs.declared.Opening.{Opening}
 use Rattle.row_columns.specs.declared.Next.the-variants.{Ends}
 use Rattle.row_entries.specs.Acts.{openingAct}
 use Rattle.step_arrivals.specs.Arrivals.{tidOf, nameOf, wantedOf}
-use Rattle.step_commit.specs.declared.TidChange.the-variants.{Unchanged}
+use Rattle.step_commit.specs.declared.GenTidChange.the-variants.{Unchanged}
 use Rattle.step_plan.specs.Steps as Steps
 use Rattle.step_plan.specs.declared.Holder.{Holder}
 use Rattle.step_plan.specs.declared.Step.{Step}

@@ -13,7 +13,6 @@ use Rattle.base_lists.specs.Seq.{pick}
 use Rattle.table_record.specs.declared.State.the-variants.{Free}
 use Rattle.table_record.specs.declared.Role.the-variants.{Initiator}
 use Rattle.table_layout.specs.Table.{count, genTidOf, recordAt}
-use Rattle.table_tids.specs.Tids.{nextTid}
 use Rattle.table_record_ok.specs.OneRecord.{Live}
 use Rattle.table_finding.specs.Searched.{Called, NoneOf}
 use Rattle.law_places.proofs.Places.{live-number}
@@ -24,11 +23,10 @@ use Rattle.row_columns.specs.Columns.{actWith, stored}
 use Rattle.row_columns.specs.declared.Indication.the-variants as Indication
 use Rattle.row_entries.specs.Acts.{openingAct}
 use Rattle.row_turns.specs.Turns.{movedTo, recordAfter, turnOf, openingTurn}
-use Rattle.step_commit.specs.declared.TidChange.the-variants.{Set}
 use Rattle.step_plan.specs.Steps as Steps
 use Rattle.step_plan.specs.declared.Step.{Step}
 use Rattle.step_opening.specs.Opens.{openedTurn, openingStep}
-use Rattle.call_request.specs.Requests.{requester, requestGiven, requestCall, requestStep}
+use Rattle.call_request.specs.Requests.{requester, countedBy, requestGiven, requestCall, requestStep}
 use Rattle.call_request.specs.declared.Request.{Request}
 use Rattle.call_request.proofs.Accepted.{placeOf, Admitted, Accepted, peer-octet}
 use Rattle.step_outcome.specs.Carry.{Lent, carriedOut}
@@ -58,7 +56,7 @@ module _ (l : Lent) (time peer class : ℕ) (userAck : Bool) (f : Fits l) (a : A
   q = asRequest time peer class userAck (length (l .given))
 
   abbrev stepWith : Opening → Step
-  stepWith o = openingStep t o (requester t place q) (requestGiven q) (Set (nextTid (genTidOf t))) (requestCall q)
+  stepWith o = openingStep t o (requester t place q) (requestGiven q) (countedBy t q) (requestCall q)
 
   abbrev own : Name
   own = name Initiator (peer % peers) (genTidOf t)
@@ -78,7 +76,7 @@ module _ (l : Lent) (time peer class : ℕ) (userAck : Bool) (f : Fits l) (a : A
   no-other : NoneOf (Called Initiator (peer % peers) (genTidOf t)) t (count t)
   no-other m h c = a .tid-unused m (record { inside = h; live = live-number (recordAt t m .state) (c .live); initiator = c .role-is; tid = c .tid-is })
 
-  known : (o : Opening) → Asks o → Sound l (stepWith o) → OpensFor call l o (requester t place q) (requestGiven q) (Set (nextTid (genTidOf t))) (requestCall q)
+  known : (o : Opening) → Asks o → Sound l (stepWith o) → OpensFor call l o (requester t place q) (requestGiven q) (countedBy t q) (requestCall q)
   unfolding requester openedTurn openingTurn turnOf
   known o k ok = record {
     fits = f;
@@ -104,12 +102,12 @@ module _ (l : Lent) (time peer class : ℕ) (userAck : Bool) (f : Fits l) (a : A
       → Opened (entryOf call l (stepWith o))
   unfolding requester
   with-record o k live ok inside free =
-      opened call l o (requester t place q) (requestGiven q) (Set (nextTid (genTidOf t))) (requestCall q) (known o k ok) live given-ok inside free (opens-own o)
+      opened call l o (requester t place q) (requestGiven q) (countedBy t q) (requestCall q) (known o k ok) live given-ok inside free (opens-own o)
 
   without : Sound l (stepWith Opening.Requested0) → Once (entryOf call l (stepWith Opening.Requested0))
   unfolding requester openingAct actWith
   without ok =
-      once call l (requester t place q) (requestGiven q) (Set (nextTid (genTidOf t))) (requestCall q)
+      once call l (requester t place q) (requestGiven q) (countedBy t q) (requestCall q)
       (known Opening.Requested0 (record { role = refl; first = refl; second = refl }) ok) (opens-own Opening.Requested0)
 
   requested1 : Sound l (stepWith Opening.Requested1) → place < count t → recordAt t place .state ≡ Free → Opened (entryOf call l (stepWith Opening.Requested1))

@@ -31,6 +31,8 @@ openedRole Opening.Valid2 = Responder
 openedRole Opening.ToVerify1 = Responder
 openedRole Opening.ToVerify2 = Responder
 openedRole Opening.UnknownTidve = Responder
+openedRole Opening.Restarted1 = Responder
+openedRole Opening.Restarted2 = Responder
 
 pub record OpenedAs (opening : Opening) (r after : Record) : Type 0 where
   pub role : roleOf (after .state) ≡ openedRole opening
@@ -54,3 +56,5 @@ opened-as Opening.Valid2 r g s rows h = record { role = refl; peer = refl; tid =
 opened-as Opening.ToVerify1 r g s rows h = record { role = refl; peer = refl; tid = refl }
 opened-as Opening.ToVerify2 r g s rows h = record { role = refl; peer = refl; tid = refl }
 opened-as Opening.UnknownTidve r g s rows h = absurd (omega (arith, h))
+opened-as Opening.Restarted1 r g s rows h = record { role = refl; peer = refl; tid = refl }
+opened-as Opening.Restarted2 r g s rows h = record { role = refl; peer = refl; tid = refl }

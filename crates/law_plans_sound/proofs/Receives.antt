@@ -23,7 +23,7 @@ use Rattle.law_formed_kept.specs.UnusedName.{Unused}
 use Rattle.table_finding.specs.Finding.{freeOf}
 use Rattle.row_events.specs.declared.Opening.{Opening}
 use Rattle.row_events.specs.declared.Opening.the-variants as Opening
-use Rattle.row_choice.specs.Rows.{openingOf, invoke0Of, invoke12Of}
+use Rattle.row_choice.specs.Rows.{openingOf, invoke0Of, byClass, invoke12Of}
 use Rattle.row_choice.specs.declared.Arrived.{Arrived}
 use Rattle.step_arrivals.specs.Arrivals.{tidOf, nameOf, eventOf}
 use Rattle.step_arrivals.specs.declared.Name.{Name}
@@ -33,8 +33,8 @@ use Rattle.row_columns.specs.Columns.{actWith, stored, shown}
 use Rattle.row_columns.specs.declared.Next.the-variants.{Ends}
 use Rattle.row_turns.specs.Turns.{newRecord, recordAfter, turnOf, openingTurn}
 use Rattle.row_turns.specs.declared.Given.{Given}
-use Rattle.step_commit.specs.declared.TidChange.the-variants.{Unchanged}
-use Rattle.law_commit.specs.Allowed.{SetOk}
+use Rattle.step_commit.specs.declared.GenTidChange.the-variants.{Unchanged}
+use Rattle.law_commit.specs.Allowed.{CountOk}
 use Rattle.law_sending.specs.SendingLaws.{ClassFits}
 use Rattle.step_opening.specs.Opens.{placeFor, openedTurn}
 use Rattle.law_places.specs.Places.{LiveAt}
@@ -75,6 +75,8 @@ arrives Opening.Valid2 = true
 arrives Opening.ToVerify1 = true
 arrives Opening.ToVerify2 = true
 arrives Opening.UnknownTidve = true
+arrives Opening.Restarted1 = true
+arrives Opening.Restarted2 = true
 
 -- it is a responder's, and sends no Invoke
 record Arriving (class : ℕ) (o : Opening) : Type 0 where
@@ -97,16 +99,19 @@ arriving class Opening.Valid2 e = record { responder = refl; class-fits = tt }
 arriving class Opening.ToVerify1 e = record { responder = refl; class-fits = tt }
 arriving class Opening.ToVerify2 e = record { responder = refl; class-fits = tt }
 arriving class Opening.UnknownTidve e = record { responder = refl; class-fits = tt }
+arriving class Opening.Restarted1 e = record { responder = refl; class-fits = tt }
+arriving class Opening.Restarted2 e = record { responder = refl; class-fits = tt }
 
 arrival : (a : Arrived) → arrives (openingOf a) ≡ true
-unfolding openingOf invoke0Of invoke12Of
+unfolding openingOf invoke0Of byClass invoke12Of
 arrival a =
     picked P (a .invoke) _ _
     (picked P (a .malformed) _ _ refl
     (picked P (eqb (a .class) 0) _ _
     (picked P (a .«wrong_version») _ _ refl (picked P (a .«ttr_clear») _ _ refl (picked P (a .«too_long») _ _ refl refl)))
     (picked P (a .«wrong_version») _ _ refl (picked P (a .«ttr_clear») _ _ refl (picked P (a .«too_long») _ _ refl (picked P (a .full) _ _ refl
-    (picked P (a .valid) _ _ (picked P (eqb (a .class) 1) _ _ refl refl) (picked P (eqb (a .class) 1) _ _ refl refl))))))))
+    (picked P (a .tidnew) _ _ (picked P (eqb (a .class) 1) _ _ refl refl)
+    (picked P (a .valid) _ _ (picked P (eqb (a .class) 1) _ _ refl refl) (picked P (eqb (a .class) 1) _ _ refl refl)))))))))
     (picked P (a .malformed) _ _ refl (picked P (a .tidve) _ _ refl refl))
   where
     P : Opening → Type 0
@@ -155,7 +160,7 @@ module _ (l : Lent) (time peer : ℕ) (exit : length (l .exit) ≤ exitBound) (s
     unfolding openedTurn arriverOf newRecord
     unused live (inl ends) = absurd (ends-free opening t holder (openedGiven time p) ends live)
     unused live (inr opens) =
-        let o = opened-as opening (newRecord peer (u .tid) _) (openedGiven time p) (settingsOf t) (intervalsOf t) live in
+        let o = opened-as opening (newRecord peer (u .tid) _ _) (openedGiven time p) (settingsOf t) (intervalsOf t) live in
         let role : u .role ≡ Responder = same-role (nameOf (l .given)) (u .role) Responder (u .tid) (tidOf (l .given)) (u .names) (opens .invokes) in
         λ j k d lives same. u .none j k (record {
           live = not-free (recordAt t j .state) lives;
@@ -165,12 +170,12 @@ module _ (l : Lent) (time peer : ℕ) (exit : length (l .exit) ≤ exitBound) (s
         })
 
     pub unmatched-sound : Sound l (unmatchedStep t (u .role) peer (u .tid) time (l .given) p)
-    unfolding unmatchedStep openedStep openedGiven openedCall arriverOf SetOk
+    unfolding unmatchedStep openedStep openedGiven openedCall arriverOf CountOk
     unmatched-sound =
         opening-sound l opening holder (openedGiven time p) Unchanged (openedCall p) (a .enters .fitting)
         (record { time = a .enters .bounded; len = kept-small p; exit-len = omega arith })
         (record { message-inside = kept-inside (l .given); message-fits = kept-small p; exit-fits = exit })
         tt
-        (free-place t (a .enters .fitting .formed)) (a .known) (u .bound) (omega arith)
+        (free-place t (a .enters .fitting .formed)) (a .known) (u .bound) (omega arith) (omega arith)
         (arriving _ opening is-arrival .class-fits)
         (λ live. unused live (leaves-or-opens t peer (u .tid) (l .given) p))

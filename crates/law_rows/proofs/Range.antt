@@ -8,8 +8,9 @@ use borrow.Author.Tests.{ltb-true, lt-ltb}
 use lib.Dec.{ltb, eqb}
 use lib.ListN.{getD}
 use Rattle.base_layout.specs.Layout.{intervalBound, deadlineBound, tidBound, peers, exitBound, cellSize}
-use Rattle.base_lists.specs.Seq.{pick, every}
-use Rattle.table_record.specs.Record.{stateOf, classOf}
+use Rattle.base_lists.specs.Seq.{pick, bit, every}
+use Rattle.base_lists.proofs.StoresAndParts.{bit-le}
+use Rattle.table_record.specs.Record.{stateOf, roleOf, classOf}
 use Rattle.table_record.specs.declared.State.{State}
 use Rattle.table_record.specs.declared.Record.{Record}
 use Rattle.table_record.specs.declared.Rcr.{Rcr}
@@ -35,10 +36,10 @@ use Rattle.row_entries.specs.Acts.{actOf, openingAct}
 use Rattle.table_tids.specs.Tids.{intervalOf}
 use Rattle.row_turns.specs.Turns.{upOf, rcrAfter, aecAfter, exitLenAfter, lenAfter, deadlineAfter, newRecord, movedTo, recordAfter, turnOf, rowTurn, openingTurn}
 use Rattle.row_turns.specs.declared.Given.{Given}
-use Rattle.law_rows.specs.Shown.{actAt}
-use Rattle.table_record_ok.specs.OneRecord.{Bounded}
+use Rattle.law_rows.specs.Shown.{actAt, stateAfter}
+use Rattle.table_record_ok.specs.OneRecord.{tidnewBound, Bounded}
 use Rattle.law_rows.specs.Range.{Within}
-use Rattle.law_rows.proofs.Rows.{same-self}
+use Rattle.law_rows.proofs.Rows.{same-self, keeps-role}
 
 -- a counter goes up only where it is below its maximum
 abbrev pub allowed : Count → Bool → Bool → Bool
@@ -117,28 +118,30 @@ module _ (g : Given) (s : Settings) (rows : List (List ℕ)) (within : Within g 
   deadline-within Timer.W was r h k = omega (arith, within .time, within .w)
   deadline-within Timer.R was r h k = omega (arith, within .time)
 
-  pub new-in-range : (peer tid : ℕ) (userAck : Bool) → peer < peers → tid ≤ tidBound → Bounded s (newRecord peer tid userAck)
+  pub new-in-range : (peer tid : ℕ) (userAck tidnew : Bool) → peer < peers → tid ≤ tidBound → Bounded s (newRecord peer tid userAck tidnew)
   unfolding newRecord
-  new-in-range peer tid userAck p t = record { tid = t; rcr = omega arith; aec = omega arith; exit = omega arith; deadline = omega arith; message = omega arith; peer = p }
+  new-in-range peer tid userAck tidnew p t =
+      record { tid = t; rcr = omega arith; aec = omega arith; exit = omega arith; deadline = omega arith; message = omega arith; tidnew = bit-le tidnew; peer = p }
 
   module _ (r : Record) (a : Act) (ok : Bounded s r) (counts : allowed (a .count) (ltb (r .rcr .0) (s .«rcr_max»)) (ltb (r .aec .0) (s .«aec_max»)) ≡ true) where
-    moved-in-range : (state : State) → Bounded s (movedTo state a r g s rows)
+    moved-in-range : (state : State) → bit (r .tidnew) ≤ tidnewBound (roleOf state) → Bounded s (movedTo state a r g s rows)
     unfolding movedTo
-    moved-in-range state = record {
+    moved-in-range state tidnew = record {
       tid = ok .tid;
       rcr = rcr-within (a .count) (r .rcr) (s .«rcr_max») (ltb (r .aec .0) (s .«aec_max»)) counts (ok .rcr);
       aec = aec-within (a .count) (r .aec) (s .«aec_max») (ltb (r .rcr .0) (s .«rcr_max»)) counts (ok .aec);
       exit = exit-within (a .exit) (r .«exit_len») (g .«exit_len») (ok .exit) (within .exitLen);
       deadline = deadline-within (a .timer) (r .deadline) (intervalOf rows (classOf state) (rcrAfter (a .count) (r .rcr))) (ok .deadline) (interval-within (classOf state) (rcrAfter (a .count) (r .rcr)));
       message = len-within (a .cell) (r .len) (g .len) (ok .message) (within .len);
+      tidnew = tidnew;
       peer = ok .peer;
     }
 
-    after-in-range : (n : Next) → Bounded s (recordAfter n a r g s rows)
+    after-in-range : (n : Next) → bit (r .tidnew) ≤ tidnewBound (roleOf (stateAfter n (r .state))) → Bounded s (recordAfter n a r g s rows)
     unfolding recordAfter
-    after-in-range Stays = moved-in-range (r .state)
-    after-in-range Ends = new-in-range 0 0 false (omega arith) (omega arith)
-    after-in-range (Goes state) = moved-in-range state
+    after-in-range Stays tidnew = moved-in-range (r .state) tidnew
+    after-in-range Ends tidnew = new-in-range 0 0 false false (omega arith) (omega arith)
+    after-in-range (Goes state) tidnew = moved-in-range state tidnew
 
   -- a live record under the row for its own conditions
   pub turn-in-range : (e : Event) (r : Record) → Bounded s r → Bounded s (rowTurn (rowOf (r .state) e (conditionsOf s r)) r g s rows .after)
@@ -146,10 +149,11 @@ module _ (g : Given) (s : Settings) (rows : List (List ℕ)) (within : Within g 
   turn-in-range e r ok =
       let a = actAt (r .state) e (conditionsOf s r) (r .«tidok_sent») (g .kind) (g .reason) in
       after-in-range r a ok (counts-allowed (g .kind) (g .reason) (r .«tidok_sent») e s r) (a .next)
+      (rw (keeps-role (g .kind) (g .reason) (r .«tidok_sent») (r .state) e (conditionsOf s r)) (ok .tidnew))
 
-  -- a new record under an opening
-  pub opening-in-range : (o : Opening) (r : Record) → Bounded s r → Bounded s (openingTurn o r g s rows .after)
+  -- a new record under an opening, with TIDnew only where that opens an initiator's
+  pub opening-in-range : (o : Opening) (r : Record) → Bounded s r → bit (r .tidnew) ≤ tidnewBound (roleOf (stateAfter (openingAct o .next) (r .state))) → Bounded s (openingTurn o r g s rows .after)
   unfolding openingTurn turnOf every openingAct actWith stored shown
-  opening-in-range o r ok =
+  opening-in-range o r ok tidnew =
       let counts : Opening → Bool = λ x. allowed (openingAct x .count) (ltb (r .rcr .0) (s .«rcr_max»)) (ltb (r .aec .0) (s .«aec_max»)) in
-      after-in-range r (openingAct o) ok (at-opening counts refl o) (openingAct o .next)
+      after-in-range r (openingAct o) ok (at-opening counts refl o) (openingAct o .next) tidnew

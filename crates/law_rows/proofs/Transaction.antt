@@ -22,7 +22,7 @@ use Rattle.law_rows.proofs.Rows.{keeps-role, keeps-class}
 module _ (g : Given) (s : Settings) (rows : List (List ℕ)) (r : Record) where
   moved-same : (a : Act) (t : State) → roleOf t ≡ roleOf (r .state) → classOf t ≡ classOf (r .state) → FreedOrSame r (movedTo t a r g s rows)
   unfolding movedTo
-  moved-same a t role class = inr (record { role = role; class = class; peer = refl; tid = refl; userAck = refl })
+  moved-same a t role class = inr (record { role = role; class = class; peer = refl; tid = refl; userAck = refl; tidnew = refl })
 
   after-same : (a : Act) (n : Next) → roleOf (stateAfter n (r .state)) ≡ roleOf (r .state) → classOf (stateAfter n (r .state)) ≡ classOf (r .state)
       → FreedOrSame r (recordAfter n a r g s rows)

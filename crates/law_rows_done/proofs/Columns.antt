@@ -28,9 +28,9 @@ at-each-row f g e x =
     let small : rowNumber x < 33 = ltb-true (rowNumber x) 33 (at-row (λ y. ltb (rowNumber y) 33) refl x) in
     ap f (sym known) ∙ at-number (λ k. f (rowNumbered k)) (λ k. g (rowNumbered k)) 33 e (rowNumber x) small ∙ ap g known
 
-pub at-each-opening : {A : Type 0} (f g : Opening → A) → column (λ k. f (openingNumbered k)) 14 ≡ column (λ k. g (openingNumbered k)) 14 → (x : Opening) → f x ≡ g x
+pub at-each-opening : {A : Type 0} (f g : Opening → A) → column (λ k. f (openingNumbered k)) 16 ≡ column (λ k. g (openingNumbered k)) 16 → (x : Opening) → f x ≡ g x
 unfolding every
 at-each-opening f g e x =
     let known : openingNumbered (openingNumber x) ≡ x = same-opening (openingNumbered (openingNumber x)) x (at-opening (λ y. sameOpening (openingNumbered (openingNumber y)) y) refl x) in
-    let small : openingNumber x < 14 = ltb-true (openingNumber x) 14 (at-opening (λ y. ltb (openingNumber y) 14) refl x) in
-    ap f (sym known) ∙ at-number (λ k. f (openingNumbered k)) (λ k. g (openingNumbered k)) 14 e (openingNumber x) small ∙ ap g known
+    let small : openingNumber x < 16 = ltb-true (openingNumber x) 16 (at-opening (λ y. ltb (openingNumber y) 16) refl x) in
+    ap f (sym known) ∙ at-number (λ k. f (openingNumbered k)) (λ k. g (openingNumbered k)) 16 e (openingNumber x) small ∙ ap g known

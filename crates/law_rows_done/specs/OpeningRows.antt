@@ -4,7 +4,7 @@ use mathlib.Core.List.{List, [], _∷_}
 use Rattle.table_record.specs.declared.State.the-variants.{IResultWait1, IResultWait2, RTidokWait1, RTidokWait2, RInvokeRespWait1, RInvokeRespWait2}
 use Rattle.row_events.specs.Events.{sameOpening}
 use Rattle.row_events.specs.declared.Opening.{Opening}
-use Rattle.row_events.specs.declared.Opening.the-variants.{Requested0, Requested1, Requested2, Malformed, WrongVersion, Unsupported, TooLong, Shown0, Valid1, Valid2, ToVerify1, ToVerify2, UnknownTidve}
+use Rattle.row_events.specs.declared.Opening.the-variants.{Requested0, Requested1, Requested2, Malformed, WrongVersion, Unsupported, TooLong, Shown0, Valid1, Valid2, ToVerify1, ToVerify2, UnknownTidve, Restarted1, Restarted2}
 use Rattle.row_columns.specs.declared.Next.{Next}
 use Rattle.row_columns.specs.declared.Next.the-variants.{Ends, Goes}
 use Rattle.row_columns.specs.declared.Timer.{Timer}
@@ -34,6 +34,9 @@ nextLines =
     -- "Else keep the data, send TIDve, no timer, TIDOK WAIT", class by class
     (ToVerify1 ∷ [], Goes RTidokWait1) ∷
     (ToVerify2 ∷ [], Goes RTidokWait2) ∷
+    -- 02, L2: "goes through verification", class by class
+    (Restarted1 ∷ [], Goes RTidokWait1) ∷
+    (Restarted2 ∷ [], Goes RTidokWait2) ∷
     []
 
 -- the timer that is started, or not
@@ -43,8 +46,8 @@ timerLines =
     (Requested1 ∷ Requested2 ∷ [], Timer.R) ∷
     -- "Valid Invoke: indicate, AEC 0, timer A"
     (Valid1 ∷ Valid2 ∷ [], Timer.A) ∷
-    -- "send TIDve, no timer"
-    (ToVerify1 ∷ ToVerify2 ∷ [], Timer.Stop) ∷
+    -- "send TIDve, no timer"; 02, L2: "goes through verification"
+    (ToVerify1 ∷ ToVerify2 ∷ Restarted1 ∷ Restarted2 ∷ [], Timer.Stop) ∷
     []
 
 -- what is counted: RCR, or AEC
@@ -67,8 +70,8 @@ sendLines =
     (WrongVersion ∷ [], abort 6) ∷
     (Unsupported ∷ [], abort 4) ∷
     (TooLong ∷ [], abort 7) ∷
-    -- "Else keep the data, send TIDve"
-    (ToVerify1 ∷ ToVerify2 ∷ [], Send.Tidve noRid) ∷
+    -- "Else keep the data, send TIDve"; 02, L2: "goes through verification"
+    (ToVerify1 ∷ ToVerify2 ∷ Restarted1 ∷ Restarted2 ∷ [], Send.Tidve noRid) ∷
     -- "Ack with TIDve (top bit 1), no live initiator record: Abort 2"
     (UnknownTidve ∷ [], abort 2) ∷
     []
@@ -84,7 +87,7 @@ firstLines =
 abbrev pub cellLines : List (List Opening × Bool)
 cellLines =
     -- "Only a class 1 or 2 request, a result and an Invoke to be verified write their record's cell"
-    (Requested1 ∷ Requested2 ∷ ToVerify1 ∷ ToVerify2 ∷ [], true) ∷
+    (Requested1 ∷ Requested2 ∷ ToVerify1 ∷ ToVerify2 ∷ Restarted1 ∷ Restarted2 ∷ [], true) ∷
     []
 
 -- what becomes of LastTID
@@ -92,6 +95,8 @@ abbrev pub lastTidLines : List (List Opening × Cache)
 lastTidLines =
     -- "A valid TID becomes LastTID. A verified one does so only if none is cached."
     (Valid1 ∷ Valid2 ∷ [], Cache.Set) ∷
+    -- 02, L2: "drops the cached TID for that peer"
+    (Restarted1 ∷ Restarted2 ∷ [], Cache.Drop) ∷
     []
 
 -- what document 01 says that it does; what no list names opens no record ("class 0 ends", "without record", "ignored"), and no opening has an answer's exit information or a second indication

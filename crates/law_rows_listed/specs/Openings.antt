@@ -1,11 +1,11 @@
--- Document 01, "Events", its first paragraph, read line by line: what a PDU meets without a live record.
+-- Document 01, "Events", its first paragraph, and document 02, L2, read line by line: what a PDU meets without a live record.
 use Prim.Native.Nat.{ℕ}
 use mathlib.Core.Bool.{Bool, _&&_, _||_}
 use mathlib.Core.List.{List, [], _∷_}
 use lib.Dec.{eqb}
 use Rattle.base_lists.specs.Seq.{pick}
 use Rattle.row_events.specs.declared.Opening.{Opening}
-use Rattle.row_events.specs.declared.Opening.the-variants.{Ignored, Malformed, WrongVersion, Unsupported, TooLong, Shown0, Valid1, Valid2, ToVerify1, ToVerify2, UnknownTidve}
+use Rattle.row_events.specs.declared.Opening.the-variants.{Ignored, Malformed, WrongVersion, Unsupported, TooLong, Shown0, Valid1, Valid2, ToVerify1, ToVerify2, UnknownTidve, Restarted1, Restarted2}
 use Rattle.row_choice.specs.declared.Arrived.{Arrived}
 
 -- an Invoke of a class
@@ -26,6 +26,9 @@ openingLines a =
     (a .invoke && a .«ttr_clear», Unsupported) ∷
     (a .invoke && a .«too_long», TooLong) ∷
     (a .invoke && a .full, Ignored) ∷
+    -- 02, L2: "An Invoke of class 1 or 2 with TIDnew set, with no live record and past the other tests, [..] goes through verification."
+    (invokeOf 1 a && a .tidnew, Restarted1) ∷
+    (invokeOf 2 a && a .tidnew, Restarted2) ∷
     -- "Valid Invoke: indicate, AEC 0, timer A, INVOKE RESP WAIT."
     (invokeOf 1 a && a .valid, Valid1) ∷
     (invokeOf 2 a && a .valid, Valid2) ∷

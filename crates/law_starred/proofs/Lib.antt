@@ -1,2 +1,3 @@
 pub mod Unmatched
 pub mod Starred
+pub mod Requested

@@ -9,11 +9,12 @@ use mathlib.Core.Logic.{inl, inr}
 use lib.ListN.{length}
 use lib.Dec.{eqb}
 use Rattle.base_layout.specs.Layout.{timeBound, tidBound, cachedBound, peers, exitBound}
-use Rattle.base_lists.specs.Seq.{pick}
-use Rattle.table_record.specs.Record.{stateNumber}
+use Rattle.base_lists.specs.Seq.{pick, bit}
+use Rattle.table_record.specs.Record.{stateNumber, roleOf}
+use Rattle.table_record.specs.declared.State.the-variants.{Free}
 use Rattle.table_record.specs.declared.Record.{Record}
 use Rattle.table_layout.specs.Table.{count, settingsOf, intervalsOf, cachedOf, recordAt}
-use Rattle.table_record_ok.specs.OneRecord.{Bounded}
+use Rattle.table_record_ok.specs.OneRecord.{tidnewBound, Bounded}
 use Rattle.table_well_formed.specs.WellFormed.{WellFormed}
 use Rattle.law_formed_kept.specs.UnusedName.{Unused}
 use Rattle.law_formed_kept.proofs.Keeps.{own-name}
@@ -21,6 +22,8 @@ use Rattle.row_events.specs.declared.Event.{Event}
 use Rattle.row_events.specs.declared.Opening.{Opening}
 use Rattle.row_columns.specs.declared.Cache.{Cache}
 use Rattle.row_columns.specs.declared.Cache.the-variants as Cache
+use Rattle.row_entries.specs.Acts.{openingAct}
+use Rattle.law_rows.specs.Shown.{stateAfter}
 use Rattle.law_rows.specs.Range.{Within}
 use Rattle.law_rows.specs.Transaction.{FreedOrSame}
 use Rattle.law_rows.proofs.Range.{new-in-range, turn-in-range, opening-in-range}
@@ -28,8 +31,9 @@ use Rattle.law_rows.proofs.Transaction.{turn-keeps}
 use Rattle.row_turns.specs.Turns.{newRecord}
 use Rattle.row_turns.specs.declared.Given.{Given}
 use Rattle.step_commit.specs.declared.Change.the-variants as Change
+use Rattle.step_commit.specs.declared.GenTidChange.{GenTidChange}
 use Rattle.step_commit.specs.declared.TidChange.{TidChange}
-use Rattle.law_commit.specs.Allowed.{ChangeOk, SetOk, Allowed}
+use Rattle.law_commit.specs.Allowed.{ChangeOk, SetOk, CountOk, Allowed}
 use Rattle.step_changes.specs.Changes.{changeOf, cachedAfter, turnChanges}
 use Rattle.step_plan.specs.Steps.{idleChanges}
 use Rattle.step_plan.specs.declared.Holder.{Holder}
@@ -52,15 +56,16 @@ within t g w ok = record {
 }
 
 -- a TID that is cached is one
-pub cached-ok : (cache : Cache) (cached tid : ℕ) → tid ≤ tidBound → SetOk cachedBound (cachedAfter cache cached tid)
+pub cached-ok : (cache : Cache) (cached tid : ℕ) → tid ≤ tidBound → SetOk (cachedAfter cache cached tid)
 unfolding cachedAfter SetOk
 cached-ok Cache.Same cached tid h = tt
 cached-ok Cache.Set cached tid h = omega arith
 cached-ok Cache.SetIfNone cached tid h = go (eqb cached 0)
   where
-    go : (b : Bool) → SetOk cachedBound (pick b (TidChange.Set (tid + 1)) TidChange.Unchanged)
+    go : (b : Bool) → SetOk (pick b (TidChange.Set (tid + 1)) TidChange.Unchanged)
     go true = omega arith
     go false = tt
+cached-ok Cache.Drop cached tid h = omega arith
 
 module _ (t : List ℕ) (w : WellFormed t) (place : ℕ) (lives : LiveAt t place) (event : Event) (g : Given) (ok : GivenOk g) where
   abbrev was : Record
@@ -95,7 +100,7 @@ module _ (t : List ℕ) (w : WellFormed t) (place : ℕ) (lives : LiveAt t place
 
   pub live-allowed : (exit : List ℕ) → length exit ≤ exitBound
       → Allowed t (turnChanges (liveTurn t place event g) place (was .peer) (was .tid) (cachedOf t (was .peer)) (g .time)) exit
-  unfolding turnChanges changeOf SetOk
+  unfolding turnChanges changeOf CountOk
   live-allowed exit x = record {
     place = lives .inside;
     change = change-ok (eqb (stateNumber (after .state)) 0) refl;
@@ -107,15 +112,16 @@ module _ (t : List ℕ) (w : WellFormed t) (place : ℕ) (lives : LiveAt t place
   }
 
 -- an opening for a holder whose name no live record has
-module _ (t : List ℕ) (w : WellFormed t) (opening : Opening) (h : Holder) (g : Given) (ok : GivenOk g) (inside : h .place < count t) (peer : h .peer < peers) (tid : h .tid ≤ tidBound) where
+module _ (t : List ℕ) (w : WellFormed t) (opening : Opening) (h : Holder) (g : Given) (ok : GivenOk g) (inside : h .place < count t) (peer : h .peer < peers) (tid : h .tid ≤ tidBound)
+    (tidnew : bit (h .tidnew) ≤ tidnewBound (roleOf (stateAfter (openingAct opening .next) Free))) where
   abbrev opened : Record
   opened = openedTurn t opening h g .after
 
   pub opened-bounded : Bounded (settingsOf t) opened
-  unfolding openedTurn
+  unfolding openedTurn newRecord
   opened-bounded =
       let in-bounds : Within g (settingsOf t) (intervalsOf t) = within t g w ok in
-      opening-in-range g (settingsOf t) (intervalsOf t) in-bounds opening _ (new-in-range g (settingsOf t) (intervalsOf t) in-bounds (h .peer) (h .tid) (h .up) peer tid)
+      opening-in-range g (settingsOf t) (intervalsOf t) in-bounds opening _ (new-in-range g (settingsOf t) (intervalsOf t) in-bounds (h .peer) (h .tid) (h .up) (h .tidnew) peer tid) tidnew
 
   module _ (unused : 1 ≤ stateNumber (opened .state) → Unused t (h .place) opened) where
     opened-ok : (b : Bool) → eqb (stateNumber (opened .state)) 0 ≡ b → ChangeOk t (h .place) (pick b Change.Nothing (Change.Put opened)) false
@@ -125,7 +131,7 @@ module _ (t : List ℕ) (w : WellFormed t) (opening : Opening) (h : Holder) (g :
         let l : 1 ≤ stateNumber (opened .state) = omega (arith, eqb-false (stateNumber (opened .state)) 0 e) in
         (record { live = l; bounds = opened-bounded }, unused l)
 
-    pub opening-allowed : (genTid : TidChange) (exit : List ℕ) → SetOk tidBound genTid → length exit ≤ exitBound
+    pub opening-allowed : (genTid : GenTidChange) (exit : List ℕ) → CountOk genTid → length exit ≤ exitBound
         → Allowed t (openingChanges (openedTurn t opening h g) h (cachedOf t (h .peer)) genTid (g .time)) exit
     unfolding openingChanges changeOf
     opening-allowed genTid exit counted x = record {
@@ -139,7 +145,7 @@ module _ (t : List ℕ) (w : WellFormed t) (opening : Opening) (h : Holder) (g :
     }
 
 pub idle-allowed : (t : List ℕ) (time : ℕ) (exit : List ℕ) → WellFormed t → time ≤ timeBound → length exit ≤ exitBound → Allowed t (idleChanges time) exit
-unfolding idleChanges ChangeOk SetOk
+unfolding idleChanges ChangeOk SetOk CountOk
 idle-allowed t time exit w h x = record {
   place = omega (arith, w .sized .least);
   change = refl;

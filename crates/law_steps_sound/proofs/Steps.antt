@@ -7,7 +7,8 @@ use mathlib.Core.Bool.{Bool, true, false}
 use lib.ListN.{length}
 use Rattle.base_layout.specs.Layout.{timeBound, tidBound, peers, exitBound, cellSize}
 use Rattle.base_lists.proofs.StoresAndParts.{true-false}
-use Rattle.table_record.specs.Record.{classOf, stateNumber}
+use Rattle.base_lists.specs.Seq.{bit}
+use Rattle.table_record.specs.Record.{roleOf, classOf, stateNumber}
 use Rattle.table_record.specs.declared.State.{State}
 use Rattle.table_record.specs.declared.State.the-variants as State
 use Rattle.table_layout.specs.Table.{count, recordAt}
@@ -15,14 +16,15 @@ use Rattle.law_formed_kept.specs.UnusedName.{Unused}
 use Rattle.row_events.specs.declared.Event.{Event}
 use Rattle.row_events.specs.declared.Opening.{Opening}
 use Rattle.row_entries.specs.Acts.{openingAct}
-use Rattle.law_rows.specs.Shown.{SendProper}
+use Rattle.table_record_ok.specs.OneRecord.{tidnewBound}
+use Rattle.law_rows.specs.Shown.{stateAfter, SendProper}
 use Rattle.law_rows.proofs.Rows.{proper, proper-opening}
 use Rattle.row_turns.specs.Turns.{turnOf, rowTurn, openingTurn}
 use Rattle.row_turns.specs.declared.Given.{Given}
 use Rattle.row_turns.specs.declared.Turn.{Turn}
-use Rattle.step_commit.specs.declared.TidChange.{TidChange}
+use Rattle.step_commit.specs.declared.GenTidChange.{GenTidChange}
 use Rattle.step_commit.specs.declared.Changes.{Changes}
-use Rattle.law_commit.specs.Allowed.{SetOk, Allowed}
+use Rattle.law_commit.specs.Allowed.{CountOk, Allowed}
 use Rattle.step_changes.specs.Changes.{turnChanges}
 use Rattle.law_sending.specs.SendingLaws.{ClassFits}
 use Rattle.step_plan.specs.Steps.{stepOf, idleChanges, idleStep}
@@ -97,18 +99,18 @@ unfolding openedTurn openingTurn turnOf
 class-opening t opening h g k = k
 
 -- what comes without a live record, under a name that no live record has
-pub opening-sound : (l : Lent) (opening : Opening) (h : Holder) (g : Given) (genTid : TidChange) (c : Call) → Fits l → GivenOk g → LentOk l c → SetOk tidBound genTid
-    → h .place < count (l .table) → h .peer < peers → h .tid ≤ tidBound → h .len ≤ cellSize → ClassFits (openingAct opening .send) (h .class)
+pub opening-sound : (l : Lent) (opening : Opening) (h : Holder) (g : Given) (genTid : GenTidChange) (c : Call) → Fits l → GivenOk g → LentOk l c → CountOk genTid
+    → h .place < count (l .table) → h .peer < peers → h .tid ≤ tidBound → bit (h .tidnew) ≤ tidnewBound (roleOf (stateAfter (openingAct opening .next) State.Free)) → h .len ≤ cellSize → ClassFits (openingAct opening .send) (h .class)
     → (1 ≤ stateNumber (openedTurn (l .table) opening h g .after .state) → Unused (l .table) (h .place) (openedTurn (l .table) opening h g .after))
     → Sound l (openingStep (l .table) opening h g genTid c)
 unfolding openingStep openingChanges
-opening-sound l opening h g genTid c f given ok counted inside peer tid message class unused =
+opening-sound l opening h g genTid c f given ok counted inside peer tid tidnew message class unused =
     let t : List ℕ = l .table in
     let turn : Turn = openedTurn t opening h g in
     step-sound l turn _ h c f ok refl message (opening-proper t opening h g)
     (class-opening t opening h g class)
-    (opened-bounded t (f .formed) opening h g given inside peer tid .exit)
-    (opening-allowed t (f .formed) opening h g given inside peer tid unused genTid (l .exit) counted (ok .exit-fits))
+    (opened-bounded t (f .formed) opening h g given inside peer tid tidnew .exit)
+    (opening-allowed t (f .formed) opening h g given inside peer tid tidnew unused genTid (l .exit) counted (ok .exit-fits))
 
 -- an accepted call that only stores its time
 pub idle-sound : (l : Lent) (time : ℕ) → Fits l → time ≤ timeBound → length (l .exit) ≤ exitBound → Sound l (idleStep time)

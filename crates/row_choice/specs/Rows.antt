@@ -11,7 +11,7 @@ use Rattle.row_events.specs.declared.Conditions.{Conditions}
 use Rattle.row_events.specs.declared.Row.{Row}
 use Rattle.row_events.specs.declared.Row.the-variants as Row
 use Rattle.row_events.specs.declared.Opening.{Opening}
-use Rattle.row_events.specs.declared.Opening.the-variants.{Ignored, Requested0, Requested1, Requested2, Malformed, WrongVersion, Unsupported, TooLong, Shown0, Valid1, Valid2, ToVerify1, ToVerify2, UnknownTidve}
+use Rattle.row_events.specs.declared.Opening.the-variants.{Ignored, Requested0, Requested1, Requested2, Malformed, WrongVersion, Unsupported, TooLong, Shown0, Valid1, Valid2, ToVerify1, ToVerify2, Restarted1, Restarted2, UnknownTidve}
 use Rattle.row_initiator.specs.Initiator as Initiator
 use Rattle.row_responder.specs.Responder as Responder
 use Rattle.row_choice.specs.declared.Arrived.{Arrived}
@@ -58,14 +58,19 @@ requestedOf class = pick (eqb class 0) Requested0 (pick (eqb class 1) Requested1
 unfoldable pub invoke0Of : Arrived → Opening
 invoke0Of a = pick (a .«wrong_version») Ignored (pick (a .«ttr_clear») Ignored (pick (a .«too_long») Ignored Shown0))
 
--- 01: "version not 0: Abort 6; TTR clear: Abort 4; data over 1,024: Abort 7; no free record: ignored", then the TID test
+-- the row of class 1, or of class 2
+unfoldable pub byClass : ℕ → Opening → Opening → Opening
+byClass class one two = pick (eqb class 1) one two
+
+-- 01: "version not 0: Abort 6; TTR clear: Abort 4; data over 1,024: Abort 7; no free record: ignored"; 02, L2: "with TIDnew set, [..] past the other tests"; then the TID test
 unfoldable pub invoke12Of : Arrived → Opening
 invoke12Of a =
     pick (a .«wrong_version») WrongVersion
     (pick (a .«ttr_clear») Unsupported
     (pick (a .«too_long») TooLong
     (pick (a .full) Ignored
-    (pick (a .valid) (pick (eqb (a .class) 1) Valid1 Valid2) (pick (eqb (a .class) 1) ToVerify1 ToVerify2)))))
+    (pick (a .tidnew) (byClass (a .class) Restarted1 Restarted2)
+    (pick (a .valid) (byClass (a .class) Valid1 Valid2) (byClass (a .class) ToVerify1 ToVerify2))))))
 
 -- 01: "Invoke without a live record, in order: malformed; ..", "Ack with TIDve (top bit 1), no live initiator record: Abort 2", "All else without a record is ignored"
 unfoldable pub openingOf : Arrived → Opening

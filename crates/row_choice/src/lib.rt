@@ -1,6 +1,6 @@
 // Which row of document 01, "Events", an event meets: in a state, and without a live record.
 ghost use mathlib.Core.Path.{_≡_};
-ghost use Rattle.row_choice.specs.Rows.{freeRow, rowOf, requestedOf, invoke0Of, invoke12Of, openingOf};
+ghost use Rattle.row_choice.specs.Rows.{freeRow, rowOf, requestedOf, invoke0Of, byClass, invoke12Of, openingOf};
 use row_events::Conditions;
 use row_events::Event;
 use row_events::Opening;
@@ -79,6 +79,8 @@ pub struct Arrived {
     pub too_long: bool,
     // No record is free.
     pub full: bool,
+    // TIDnew is set.
+    pub tidnew: bool,
     // The TID is valid.
     pub valid: bool,
 }
@@ -98,6 +100,13 @@ fn invoke0(a: Arrived) -> Opening
     Opening::Shown0
 }
 
+// The row of class 1, or of class 2.
+fn by_class(class: u8, one: Opening, two: Opening) -> Opening
+    ensures { λ r. ⌜ r ≡ byClass class one two ⌝ }
+{
+    if class == 1 { one } else { two }
+}
+
 fn invoke12(a: Arrived) -> Opening
     ensures { λ r. ⌜ r ≡ invoke12Of a ⌝ }
 {
@@ -113,17 +122,13 @@ fn invoke12(a: Arrived) -> Opening
     if a.full {
         return Opening::Ignored;
     }
+    if a.tidnew {
+        return by_class(a.class, Opening::Restarted1, Opening::Restarted2);
+    }
     if a.valid {
-        return if a.class == 1 {
-            Opening::Valid1
-        } else {
-            Opening::Valid2
-        };
+        return by_class(a.class, Opening::Valid1, Opening::Valid2);
     }
-    if a.class == 1 {
-        return Opening::ToVerify1;
-    }
-    Opening::ToVerify2
+    by_class(a.class, Opening::ToVerify1, Opening::ToVerify2)
 }
 
 // The row of a PDU without a live record.

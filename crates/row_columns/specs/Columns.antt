@@ -125,8 +125,8 @@ acked state exit = record {
 }
 
 -- "Only a class 1 or 2 request, a result and an Invoke to be verified write their record's cell"
-unfoldable pub stored : State → Timer → Count → Send → Act
-stored state timer count send = record {
+unfoldable pub stored : State → Timer → Count → Send → Cache → Act
+stored state timer count send cache = record {
   next = Goes state;
   timer = timer;
   count = count;
@@ -136,16 +136,16 @@ stored state timer count send = record {
   first = Indication.Nothing;
   second = Indication.Nothing;
   cell = true;
-  cache = Cache.Same;
+  cache = cache;
 }
 
 -- "RCR 0, send [Invoke or Result], timer R[0]"
 abbrev pub sent : State → Send → Act
-sent state send = stored state Timer.R Count.RcrZero send
+sent state send = stored state Timer.R Count.RcrZero send Cache.Same
 
 -- "keep the data, send TIDve, no timer, TIDOK WAIT"
-abbrev pub verifying : State → Act
-verifying state = stored state Timer.Stop Count.Same (Send.Tidve false)
+abbrev pub verifying : State → Cache → Act
+verifying state cache = stored state Timer.Stop Count.Same (Send.Tidve false) cache
 
 -- "indicate, AEC 0, timer A, INVOKE RESP WAIT"; "the store serves an Invoke shown after verification"
 unfoldable pub shown : State → Bool → Cache → Act

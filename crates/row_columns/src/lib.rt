@@ -61,6 +61,7 @@ pub enum Cache {
     Same,
     Set,
     SetIfNone,
+    Drop,
 }
 
 // The PDU to send, true where it is a repeat. Abort: type and reason.
@@ -249,8 +250,8 @@ pub fn acks(state: State, exit: ExitInfo) -> Act
 }
 
 // The message is kept in the record's cell.
-fn stores(state: State, timer: Timer, count: Count, send: Send) -> Act
-    ensures { λ a. ⌜ a ≡ stored state timer count send ⌝ }
+fn stores(state: State, timer: Timer, count: Count, send: Send, cache: Cache) -> Act
+    ensures { λ a. ⌜ a ≡ stored state timer count send cache ⌝ }
 {
     Act {
         next: Next::Goes(state),
@@ -262,7 +263,7 @@ fn stores(state: State, timer: Timer, count: Count, send: Send) -> Act
         first: Indication::Nothing,
         second: Indication::Nothing,
         cell: true,
-        cache: Cache::Same,
+        cache: cache,
     }
 }
 
@@ -270,14 +271,14 @@ fn stores(state: State, timer: Timer, count: Count, send: Send) -> Act
 pub fn sends(state: State, send: Send) -> Act
     ensures { λ a. ⌜ a ≡ sent state send ⌝ }
 {
-    stores(state, Timer::R, Count::RcrZero, send)
+    stores(state, Timer::R, Count::RcrZero, send, Cache::Same)
 }
 
 // An Invoke to be verified.
-pub fn verifies(state: State) -> Act
-    ensures { λ a. ⌜ a ≡ verifying state ⌝ }
+pub fn verifies(state: State, cache: Cache) -> Act
+    ensures { λ a. ⌜ a ≡ verifying state cache ⌝ }
 {
-    stores(state, Timer::Stop, Count::Same, Send::Tidve(false))
+    stores(state, Timer::Stop, Count::Same, Send::Tidve(false), cache)
 }
 
 // The responder's user is shown an Invoke.

@@ -109,7 +109,10 @@ openingAct Opening.Shown0 = ended Send.Nothing (Indication.Invoke false)
 openingAct Opening.Valid1 = shown RInvokeRespWait1 false Cache.Set
 openingAct Opening.Valid2 = shown RInvokeRespWait2 false Cache.Set
 -- "Else keep the data, send TIDve, no timer, TIDOK WAIT"
-openingAct Opening.ToVerify1 = verifying RTidokWait1
-openingAct Opening.ToVerify2 = verifying RTidokWait2
+openingAct Opening.ToVerify1 = verifying RTidokWait1 Cache.Same
+openingAct Opening.ToVerify2 = verifying RTidokWait2 Cache.Same
 -- "Ack with TIDve (top bit 1), no live initiator record: Abort 2"
 openingAct Opening.UnknownTidve = abortedUnseen invalidtid
+-- 02, L2: "drops the cached TID for that peer and goes through verification"
+openingAct Opening.Restarted1 = verifying RTidokWait1 Cache.Drop
+openingAct Opening.Restarted2 = verifying RTidokWait2 Cache.Drop

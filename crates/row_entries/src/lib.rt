@@ -102,8 +102,10 @@ pub fn opening_act(opening: Opening) -> Act
         Opening::Shown0 => ends(Send::Nothing, Indication::Invoke(false)),
         Opening::Valid1 => shows(State::RInvokeRespWait1, false, Cache::Set),
         Opening::Valid2 => shows(State::RInvokeRespWait2, false, Cache::Set),
-        Opening::ToVerify1 => verifies(State::RTidokWait1),
-        Opening::ToVerify2 => verifies(State::RTidokWait2),
+        Opening::ToVerify1 => verifies(State::RTidokWait1, Cache::Same),
+        Opening::ToVerify2 => verifies(State::RTidokWait2, Cache::Same),
         Opening::UnknownTidve => aborts_unseen(INVALIDTID),
+        Opening::Restarted1 => verifies(State::RTidokWait1, Cache::Drop),
+        Opening::Restarted2 => verifies(State::RTidokWait2, Cache::Drop),
     }
 }

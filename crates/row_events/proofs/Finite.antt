@@ -89,7 +89,7 @@ row-numbered Row.ResultResent = (omega arith, refl)
 row-numbered Row.InvokeSeenAgain = (omega arith, refl)
 row-numbered Row.TidokSeenAgain = (omega arith, refl)
 
-opening-numbered : (x : Opening) → (openingNumber x < 14) × (openingNumbered (openingNumber x) ≡ x)
+opening-numbered : (x : Opening) → (openingNumber x < 16) × (openingNumbered (openingNumber x) ≡ x)
 opening-numbered Opening.Ignored = (omega arith, refl)
 opening-numbered Opening.Requested0 = (omega arith, refl)
 opening-numbered Opening.Requested1 = (omega arith, refl)
@@ -104,6 +104,8 @@ opening-numbered Opening.Valid2 = (omega arith, refl)
 opening-numbered Opening.ToVerify1 = (omega arith, refl)
 opening-numbered Opening.ToVerify2 = (omega arith, refl)
 opening-numbered Opening.UnknownTidve = (omega arith, refl)
+opening-numbered Opening.Restarted1 = (omega arith, refl)
+opening-numbered Opening.Restarted2 = (omega arith, refl)
 
 conditions-numbered : (c : Conditions) → (conditionsNumber c < 4) × (conditionsNumbered (conditionsNumber c) ≡ c)
 conditions-numbered c = go (c .more) (c .mark)
@@ -136,7 +138,7 @@ abbrev pub allRows : (Row → Bool) → Bool
 allRows f = every (λ k. f (rowNumbered k)) 33
 
 abbrev pub allOpenings : (Opening → Bool) → Bool
-allOpenings f = every (λ k. f (openingNumbered k)) 14
+allOpenings f = every (λ k. f (openingNumbered k)) 16
 
 pub at-state : (f : State → Event → Conditions → Bool) → allStates f ≡ true → (s : State) (e : Event) (c : Conditions) → f s e c ≡ true
 at-state f computed s e c =
@@ -150,7 +152,7 @@ pub at-row : (f : Row → Bool) → allRows f ≡ true → (x : Row) → f x ≡
 at-row f computed x = each f 33 rowNumbered computed x (rowNumber x) (row-numbered x)
 
 pub at-opening : (f : Opening → Bool) → allOpenings f ≡ true → (x : Opening) → f x ≡ true
-at-opening f computed x = each f 14 openingNumbered computed x (openingNumber x) (opening-numbered x)
+at-opening f computed x = each f 16 openingNumbered computed x (openingNumber x) (opening-numbered x)
 
 pub same-row : (a b : Row) → sameRow a b ≡ true → a ≡ b
 same-row a b e = sym (row-numbered a .1) ∙ ap rowNumbered (eqb-true (rowNumber a) (rowNumber b) e) ∙ row-numbered b .1

@@ -90,9 +90,11 @@ openingNumber Opening.Valid2 = 10
 openingNumber Opening.ToVerify1 = 11
 openingNumber Opening.ToVerify2 = 12
 openingNumber Opening.UnknownTidve = 13
+openingNumber Opening.Restarted1 = 14
+openingNumber Opening.Restarted2 = 15
 
 abbrev pub openingNumbered : ℕ → Opening
-openingNumbered n = getD (Opening.Ignored ∷ Opening.Requested0 ∷ Opening.Requested1 ∷ Opening.Requested2 ∷ Opening.Malformed ∷ Opening.WrongVersion ∷ Opening.Unsupported ∷ Opening.TooLong ∷ Opening.Shown0 ∷ Opening.Valid1 ∷ Opening.Valid2 ∷ Opening.ToVerify1 ∷ Opening.ToVerify2 ∷ Opening.UnknownTidve ∷ []) n Opening.Ignored
+openingNumbered n = getD (Opening.Ignored ∷ Opening.Requested0 ∷ Opening.Requested1 ∷ Opening.Requested2 ∷ Opening.Malformed ∷ Opening.WrongVersion ∷ Opening.Unsupported ∷ Opening.TooLong ∷ Opening.Shown0 ∷ Opening.Valid1 ∷ Opening.Valid2 ∷ Opening.ToVerify1 ∷ Opening.ToVerify2 ∷ Opening.UnknownTidve ∷ Opening.Restarted1 ∷ Opening.Restarted2 ∷ []) n Opening.Ignored
 
 -- the number of the two conditions, and the conditions of a number
 abbrev pub conditionsNumber : Conditions → ℕ

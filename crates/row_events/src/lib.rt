@@ -84,4 +84,7 @@ pub enum Opening {
     ToVerify1,
     ToVerify2,
     UnknownTidve,
+    // An Invoke with TIDnew, to be verified.
+    Restarted1,
+    Restarted2,
 }

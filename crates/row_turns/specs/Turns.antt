@@ -96,8 +96,8 @@ deadlineAfter Timer.W was time s r = time + s .w
 deadlineAfter Timer.R was time s r = time + r
 
 -- 01: "Request", "Valid Invoke", "Else keep the data": the record that an opening starts from; "A freed record is zeroed" is that of zeros
-unfoldable pub newRecord : ℕ → ℕ → Bool → Record
-newRecord peer tid userAck = record {
+unfoldable pub newRecord : ℕ → ℕ → Bool → Bool → Record
+newRecord peer tid userAck tidnew = record {
   state = Free;
   peer = peer;
   tid = tid;
@@ -105,6 +105,7 @@ newRecord peer tid userAck = record {
   «hold_on» = false;
   «tidok_sent» = false;
   «hold_on_sent» = false;
+  tidnew = tidnew;
   rcr = record { 0 = 0 };
   aec = record { 0 = 0 };
   «exit_len» = 0;
@@ -112,7 +113,7 @@ newRecord peer tid userAck = record {
   len = 0;
 }
 
--- the record in its next state; peer, TID and user acknowledgement never change, and R[RCR] takes RCR as the row leaves it
+-- the record in its next state; peer, TID, user acknowledgement and TIDnew never change, and R[RCR] takes RCR as the row leaves it
 unfoldable pub movedTo : State → Act → Record → Given → Settings → List (List ℕ) → Record
 movedTo state a r g s rows = record {
   state = state;
@@ -122,6 +123,7 @@ movedTo state a r g s rows = record {
   «hold_on» = holdOnAfter (a .mark) (r .«hold_on»);
   «tidok_sent» = tidokSentAfter (a .mark) (r .«tidok_sent»);
   «hold_on_sent» = holdOnSentAfter (a .mark) (r .«hold_on_sent»);
+  tidnew = r .tidnew;
   rcr = rcrAfter (a .count) (r .rcr);
   aec = aecAfter (a .count) (r .aec);
   «exit_len» = exitLenAfter (a .exit) (r .«exit_len») (g .«exit_len»);
@@ -132,7 +134,7 @@ movedTo state a r g s rows = record {
 -- the record after a row, free where it ends
 unfoldable pub recordAfter : Next → Act → Record → Given → Settings → List (List ℕ) → Record
 recordAfter Stays a r g s rows = movedTo (r .state) a r g s rows
-recordAfter Ends a r g s rows = newRecord 0 0 false
+recordAfter Ends a r g s rows = newRecord 0 0 false false
 recordAfter (Goes state) a r g s rows = movedTo state a r g s rows
 
 -- the whole turn

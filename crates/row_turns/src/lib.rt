@@ -153,8 +153,8 @@ fn deadline_after(t: Timer, was: u64, time: u64, s: Settings, r: u32) -> u64
 }
 
 // The record that an opening starts from; with zeros, a free record.
-pub fn new_record(peer: u8, tid: u16, user_ack: bool) -> Record
-    ensures { λ r. ⌜ r ≡ newRecord peer tid «user_ack» ⌝ }
+pub fn new_record(peer: u8, tid: u16, user_ack: bool, tidnew: bool) -> Record
+    ensures { λ r. ⌜ r ≡ newRecord peer tid «user_ack» tidnew ⌝ }
 {
     Record {
         state: State::Free,
@@ -164,6 +164,7 @@ pub fn new_record(peer: u8, tid: u16, user_ack: bool) -> Record
         hold_on: false,
         tidok_sent: false,
         hold_on_sent: false,
+        tidnew: tidnew,
         rcr: Rcr(0),
         aec: Aec(0),
         exit_len: 0,
@@ -214,6 +215,7 @@ fn moved_to(state: State, a: Act, r: Record, g: Given, s: Settings, t: &[u8]) ->
         hold_on: hold_on,
         tidok_sent: tidok_sent,
         hold_on_sent: hold_on_sent,
+        tidnew: r.tidnew,
         rcr: rcr,
         aec: aec,
         exit_len: exit_len,
@@ -232,7 +234,7 @@ fn record_after(a: Act, r: Record, g: Given, s: Settings, t: &[u8]) -> Record
             let state = r.state;
             moved_to(state, a, r, g, s, t)
         }
-        Next::Ends => new_record(0, 0, false),
+        Next::Ends => new_record(0, 0, false, false),
         Next::Goes(state) => moved_to(state, a, r, g, s, t),
     }
 }

@@ -88,11 +88,11 @@ isTidve (Refused r) tid = false
 
 -- nothing is asked for
 abbrev pub noWant : Wanted
-noWant = record { class = 0; up = false; «wrong_version» = false; «ttr_clear» = false }
+noWant = record { class = 0; up = false; «wrong_version» = false; «ttr_clear» = false; tidnew = false }
 
--- 01: "version not 0", "TTR clear", the class and U/P, of an Invoke
+-- 01: "version not 0", "TTR clear", the class and U/P, and 02, L2, TIDnew, of an Invoke
 unfoldable pub wantedOf : Kind → Wanted
-wantedOf (Invoke gtr ttr rid version n up class) = record { class = class; up = up; «wrong_version» = ltb 0 version; «ttr_clear» = not ttr }
+wantedOf (Invoke gtr ttr rid version tidnew up class) = record { class = class; up = up; «wrong_version» = ltb 0 version; «ttr_clear» = not ttr; tidnew = tidnew }
 wantedOf (Result gtr ttr rid) = noWant
 wantedOf (Ack tve rid) = noWant
 wantedOf (Abort t r) = noWant
@@ -113,5 +113,6 @@ arrivedOf s p full valid = record {
   «ttr_clear» = wantedOf (p .kind) .«ttr_clear»;
   «too_long» = ltb cellSize (p .len);
   full = full;
+  tidnew = wantedOf (p .kind) .tidnew;
   valid = valid;
 }

@@ -29,6 +29,7 @@ pub struct Wanted {
     pub up: bool,
     pub wrong_version: bool,
     pub ttr_clear: bool,
+    pub tidnew: bool,
 }
 
 fn wide(x: u8) -> u16
@@ -166,6 +167,7 @@ fn no_want() -> Wanted
         up: false,
         wrong_version: false,
         ttr_clear: false,
+        tidnew: false,
     }
 }
 
@@ -177,6 +179,7 @@ pub fn wanted_by(kind: Kind) -> Wanted
         Kind::Invoke {
             ttr,
             version,
+            tidnew,
             up,
             class,
             ..
@@ -185,6 +188,7 @@ pub fn wanted_by(kind: Kind) -> Wanted
             up: up,
             wrong_version: 0 < version,
             ttr_clear: !ttr,
+            tidnew: tidnew,
         },
         Kind::Result { .. } => no_want(),
         Kind::Ack { .. } => no_want(),
@@ -215,6 +219,7 @@ pub fn arrived(s: &[u8], b: Brief, full: bool, valid: bool) -> Arrived
         ttr_clear: want.ttr_clear,
         too_long: base_layout::CELL_SIZE < b.len,
         full: full,
+        tidnew: want.tidnew,
         valid: valid,
     }
 }

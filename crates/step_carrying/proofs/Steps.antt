@@ -9,7 +9,7 @@ use Rattle.row_events.specs.declared.Row.{Row}
 use Rattle.row_events.specs.declared.Opening.{Opening}
 use Rattle.row_turns.specs.Turns.{rowTurn, openingTurn}
 use Rattle.row_turns.specs.declared.Given.{Given}
-use Rattle.step_commit.specs.declared.TidChange.{TidChange}
+use Rattle.step_commit.specs.declared.GenTidChange.{GenTidChange}
 use Rattle.step_plan.specs.declared.Holder.{Holder}
 use Rattle.step_plan.specs.declared.Call.{Call}
 use Rattle.step_live.specs.Turning.{rowAt, holderOf, liveTurn, liveStep}
@@ -21,7 +21,7 @@ pub live-is : (t : List ℕ) (place : ℕ) (event : Event) (g : Given) (c : Call
 unfolding liveStep liveTurn rowTurn holderOf comingStep turnFor changesFor
 live-is t place event g c = refl
 
-pub opens-is : (t : List ℕ) (opening : Opening) (h : Holder) (g : Given) (genTid : TidChange) (c : Call) → openingStep t opening h g genTid c ≡ comingStep t (Opens opening h genTid) g c
+pub opens-is : (t : List ℕ) (opening : Opening) (h : Holder) (g : Given) (genTid : GenTidChange) (c : Call) → openingStep t opening h g genTid c ≡ comingStep t (Opens opening h genTid) g c
 unfolding openingStep openedTurn openingTurn comingStep turnFor changesFor
 opens-is t opening h g genTid c = refl
 
@@ -29,5 +29,5 @@ pub live-in-range : (t : List ℕ) (place : ℕ) (row : Row) (g : Given) → rec
 unfolding holderOf
 live-in-range t place row g tid small time = record { time = time; tid = tid; place = small }
 
-pub opens-in-range : (t : List ℕ) (opening : Opening) (h : Holder) (genTid : TidChange) (g : Given) → h .tid ≤ tidBound → h .place < recordsBound → g .time ≤ timeBound → InRange t (Opens opening h genTid) g
+pub opens-in-range : (t : List ℕ) (opening : Opening) (h : Holder) (genTid : GenTidChange) (g : Given) → h .tid ≤ tidBound → h .place < recordsBound → g .time ≤ timeBound → InRange t (Opens opening h genTid) g
 opens-in-range t opening h genTid g tid small time = record { time = time; tid = tid; place = small }

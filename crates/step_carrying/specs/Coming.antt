@@ -28,7 +28,7 @@ placeOf (Opens opening h genTid) = h .place
 -- the record that turns: the live one, or a new one
 abbrev pub recordFor : List ℕ → Coming → Record
 recordFor t (Live place row) = recordAt t place
-recordFor t (Opens opening h genTid) = newRecord (h .peer) (h .tid) (h .up)
+recordFor t (Opens opening h genTid) = newRecord (h .peer) (h .tid) (h .up) (h .tidnew)
 
 -- what its row does
 abbrev pub actFor : Coming → Record → Given → Act

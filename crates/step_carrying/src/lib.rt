@@ -15,7 +15,7 @@ use row_events::Row;
 use row_turns::Given;
 use row_turns::Turn;
 use step_commit::Changes;
-use step_commit::TidChange;
+use step_commit::GenTidChange;
 use step_plan::Call;
 use step_plan::Holder;
 use table_record::Record;
@@ -23,7 +23,7 @@ use table_record::Record;
 // What comes: a row for the live record at a place, or an opening for whom it concerns, with what becomes of GenTID.
 pub enum Coming {
     Live(usize, Row),
-    Opens(Opening, Holder, TidChange),
+    Opens(Opening, Holder, GenTidChange),
 }
 
 fn record_for(t: &[u8], coming: Coming) -> Record
@@ -32,7 +32,7 @@ fn record_for(t: &[u8], coming: Coming) -> Record
 {
     match coming {
         Coming::Live(place, _) => table_layout::record_at(t, place),
-        Coming::Opens(_, h, _) => row_turns::new_record(h.peer, h.tid, h.up),
+        Coming::Opens(_, h, _) => row_turns::new_record(h.peer, h.tid, h.up, h.tidnew),
     }
 }
 

@@ -11,6 +11,7 @@ use Rattle.step_commit.specs.declared.Change.{Change}
 use Rattle.step_commit.specs.declared.Change.the-variants as Change
 use Rattle.step_commit.specs.declared.TidChange.{TidChange}
 use Rattle.step_commit.specs.declared.TidChange.the-variants as TidChange
+use Rattle.step_commit.specs.declared.GenTidChange.the-variants as GenTidChange
 use Rattle.step_commit.specs.declared.Changes.{Changes}
 
 -- a record that is live afterwards is put; what becomes of one that isn't, the second says
@@ -22,6 +23,8 @@ unfoldable pub cachedAfter : Cache → ℕ → ℕ → TidChange
 cachedAfter Cache.Same cached tid = TidChange.Unchanged
 cachedAfter Cache.Set cached tid = TidChange.Set (tid + 1)
 cachedAfter Cache.SetIfNone cached tid = pick (eqb cached 0) (TidChange.Set (tid + 1)) TidChange.Unchanged
+-- 02, L2: "drops the cached TID for that peer"; 0 is none
+cachedAfter Cache.Drop cached tid = TidChange.Set 0
 
 -- 01: "A freed record is zeroed"; a turn leaves GenTID as it is: only a request counts it
 unfoldable pub turnChanges : Turn → ℕ → ℕ → ℕ → ℕ → ℕ → Changes
@@ -29,7 +32,7 @@ turnChanges turn place peer tid cached time = record {
   place = place;
   change = changeOf (turn .after) Change.Clear;
   exit = turn .exit;
-  «gen_tid» = TidChange.Unchanged;
+  «gen_tid» = GenTidChange.Unchanged;
   peer = peer;
   cached = cachedAfter (turn .cache) cached tid;
   time = time;

@@ -7,6 +7,7 @@ use row_columns::Cache;
 use row_turns::Turn;
 use step_commit::Change;
 use step_commit::Changes;
+use step_commit::GenTidChange;
 use step_commit::TidChange;
 use table_record::Record;
 
@@ -37,6 +38,7 @@ pub fn cached_after(cache: Cache, cached: u16, tid: u16) -> TidChange
                 TidChange::Unchanged
             }
         }
+        Cache::Drop => TidChange::Set(0),
     }
 }
 
@@ -53,7 +55,7 @@ pub fn turn_changes(turn: Turn, place: usize, peer: u8, tid: u16, cached: u16, t
         place: place,
         change: change,
         exit: turn.exit,
-        gen_tid: TidChange::Unchanged,
+        gen_tid: GenTidChange::Unchanged,
         peer: base_lists::size(peer),
         cached: header,
         time: time,

@@ -5,9 +5,11 @@ use mathlib.Core.List.{List}
 use mathlib.Core.Bool.{Bool, true, false}
 use lib.ListN.{length}
 use Rattle.base_lists.proofs.StoresAndParts.{length-put}
-use Rattle.table_layout.specs.Table.{putRecord, clearRecord, putGenTid, putCached, putClock}
+use Rattle.table_layout.specs.Table.{putRecord, clearRecord, putGenTid, putTidnewDue, putCached, putClock}
 use Rattle.step_commit.specs.declared.Change.{Change}
 use Rattle.step_commit.specs.declared.Change.the-variants.{Nothing, Put, Clear}
+use Rattle.step_commit.specs.declared.GenTidChange.{GenTidChange}
+use Rattle.step_commit.specs.declared.GenTidChange.the-variants as GenTidChange
 use Rattle.step_commit.specs.declared.TidChange.{TidChange}
 use Rattle.step_commit.specs.declared.TidChange.the-variants.{Unchanged, Set}
 use Rattle.step_commit.specs.declared.Changes.{Changes}
@@ -24,10 +26,10 @@ unfolding exitStored
 exit-stored t place true exit = length-put t _ exit
 exit-stored t place false exit = refl
 
-gen-tid-changed : (t : List ℕ) (c : TidChange) → length (genTidChanged t c) ≡ length t
-unfolding genTidChanged putGenTid
-gen-tid-changed t Unchanged = refl
-gen-tid-changed t (Set tid) = length-put t _ _
+gen-tid-changed : (t : List ℕ) (c : GenTidChange) → length (genTidChanged t c) ≡ length t
+unfolding genTidChanged putGenTid putTidnewDue
+gen-tid-changed t GenTidChange.Unchanged = refl
+gen-tid-changed t (GenTidChange.Set tid due) = length-put _ _ _ ∙ length-put t _ _
 
 cache-changed : (t : List ℕ) (peer : ℕ) (c : TidChange) → length (cacheChanged t peer c) ≡ length t
 unfolding cacheChanged putCached

@@ -4,9 +4,11 @@ use mathlib.Core.List.{List}
 use mathlib.Core.Bool.{Bool, true, false}
 use Rattle.base_layout.specs.Layout.{exitBase}
 use Rattle.base_lists.specs.Seq.{put}
-use Rattle.table_layout.specs.Table.{putRecord, clearRecord, putGenTid, putCached, putClock}
+use Rattle.table_layout.specs.Table.{putRecord, clearRecord, putGenTid, putTidnewDue, putCached, putClock}
 use Rattle.step_commit.specs.declared.Change.{Change}
 use Rattle.step_commit.specs.declared.Change.the-variants.{Nothing, Put, Clear}
+use Rattle.step_commit.specs.declared.GenTidChange.{GenTidChange}
+use Rattle.step_commit.specs.declared.GenTidChange.the-variants as GenTidChange
 use Rattle.step_commit.specs.declared.TidChange.{TidChange}
 use Rattle.step_commit.specs.declared.TidChange.the-variants.{Unchanged, Set}
 use Rattle.step_commit.specs.declared.Changes.{Changes}
@@ -22,9 +24,10 @@ unfoldable pub exitStored : List ℕ → ℕ → Bool → List ℕ → List ℕ
 exitStored t place true exit = put t (exitBase place) exit
 exitStored t place false exit = t
 
-unfoldable pub genTidChanged : List ℕ → TidChange → List ℕ
-genTidChanged t Unchanged = t
-genTidChanged t (Set tid) = putGenTid t tid
+-- GenTID, and whether TIDnew is then due
+unfoldable pub genTidChanged : List ℕ → GenTidChange → List ℕ
+genTidChanged t GenTidChange.Unchanged = t
+genTidChanged t (GenTidChange.Set tid due) = putTidnewDue (putGenTid t tid) due
 
 unfoldable pub cacheChanged : List ℕ → ℕ → TidChange → List ℕ
 cacheChanged t peer Unchanged = t

@@ -16,7 +16,13 @@ pub enum Change {
     Clear,
 }
 
-// What becomes of GenTID, or of a peer's cached TID.
+// What becomes of GenTID, and with it of whether TIDnew is due.
+pub enum GenTidChange {
+    Unchanged,
+    Set(u16, bool),
+}
+
+// What becomes of a peer's cached TID.
 pub enum TidChange {
     Unchanged,
     Set(u16),
@@ -27,7 +33,7 @@ pub struct Changes {
     pub place: usize,
     pub change: Change,
     pub exit: bool,
-    pub gen_tid: TidChange,
+    pub gen_tid: GenTidChange,
     pub peer: usize,
     pub cached: TidChange,
     pub time: u64,
@@ -54,13 +60,16 @@ fn store_exit(t: &mut [u8], place: usize, stored: bool, exit: &[u8])
     }
 }
 
-fn change_gen_tid(t: &mut [u8], change: TidChange)
+fn change_gen_tid(t: &mut [u8], change: GenTidChange)
     requires { ⌜ headerSize ≤ length (now t) ⌝ }
     ensures { λ _. ⌜ now (t .exit) ≡ genTidChanged (now (t .entry)) change ⌝ }
 {
     match change {
-        TidChange::Unchanged => {}
-        TidChange::Set(tid) => table_layout::put_gen_tid(t, tid),
+        GenTidChange::Unchanged => {}
+        GenTidChange::Set(tid, due) => {
+            table_layout::put_gen_tid(&mut *t, tid);
+            table_layout::put_tidnew_due(t, due);
+        }
     }
 }
 

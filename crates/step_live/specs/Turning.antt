@@ -26,7 +26,7 @@ rowIn r s event = rowOf (r .state) event (conditionsOf s r)
 unfoldable pub rowAt : List ℕ → ℕ → Event → Row
 rowAt t place event = rowIn (recordAt t place) (settingsOf t) event
 
--- the record's name, class and U/P; the message that lies in its cell
+-- the record's name, class, U/P and TIDnew; the message that lies in its cell
 unfoldable pub holderOf : Record → ℕ → Holder
 holderOf r place = record {
   place = place;
@@ -35,6 +35,7 @@ holderOf r place = record {
   tid = r .tid;
   class = classOf (r .state);
   up = r .«user_ack»;
+  tidnew = r .tidnew;
   len = r .len;
 }
 

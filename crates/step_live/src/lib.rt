@@ -29,7 +29,7 @@ pub fn row_at(t: &[u8], place: usize, event: Event) -> Row
     row_in(r, s, event)
 }
 
-// The record's name, class and U/P, and the message in its cell.
+// The record's name, class, U/P and TIDnew, and the message in its cell.
 pub fn holder_of(r: Record, place: usize) -> Holder
     ensures { λ h. ⌜ h ≡ holderOf r place ⌝ }
 {
@@ -43,6 +43,7 @@ pub fn holder_of(r: Record, place: usize) -> Holder
         tid: r.tid,
         class: class,
         up: r.user_ack,
+        tidnew: r.tidnew,
         len: r.len,
     }
 }

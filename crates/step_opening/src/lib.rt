@@ -6,12 +6,12 @@ ghost use Rattle.step_opening.specs.Opens.{openingChanges, placeFor};
 use row_turns::Turn;
 use step_commit::Change;
 use step_commit::Changes;
-use step_commit::TidChange;
+use step_commit::GenTidChange;
 use step_plan::Holder;
 use table_finding::Found;
 
 // The changes of an opening for this holder, whose peer has this TID cached.
-pub fn opening_changes(turn: Turn, h: Holder, cached: u16, gen_tid: TidChange, time: u64) -> Changes
+pub fn opening_changes(turn: Turn, h: Holder, cached: u16, gen_tid: GenTidChange, time: u64) -> Changes
     requires { ⌜ h .tid ≤ tidBound ⌝ }
     ensures { λ r. ⌜ r ≡ openingChanges turn h cached «gen_tid» time ⌝ }
 {

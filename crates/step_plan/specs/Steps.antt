@@ -7,6 +7,7 @@ use Rattle.row_columns.specs.declared.Send.{Send}
 use Rattle.row_columns.specs.declared.Send.the-variants as Send
 use Rattle.row_turns.specs.declared.Turn.{Turn}
 use Rattle.step_commit.specs.declared.Change.the-variants as Change
+use Rattle.step_commit.specs.declared.GenTidChange.the-variants as GenTidChange
 use Rattle.step_commit.specs.declared.TidChange.the-variants as TidChange
 use Rattle.step_commit.specs.declared.Changes.{Changes}
 use Rattle.step_sending.specs.Sending.{sourceOf}
@@ -46,13 +47,14 @@ messageFrom Source.Table h c = noPart
 unfoldable pub messageOf : Send → Holder → Call → Part
 messageOf send h c = messageFrom (sourceOf send) h c
 
--- who sends: the record's role, TID, class and U/P; "exit information is kept in the record"
+-- who sends: the record's role, TID, class, U/P and TIDnew; "exit information is kept in the record"
 unfoldable pub senderOf : Turn → Holder → Call → Sender
 senderOf turn h c = record {
   role = h .role;
   tid = h .tid;
   class = h .class;
   «user_ack» = h .up;
+  tidnew = h .tidnew;
   start = messageOf (turn .send) h c .start;
   len = messageOf (turn .send) h c .len;
   «exit_start» = exitBase (h .place);
@@ -97,11 +99,11 @@ stepOf turn changes h c = record {
 
 -- nobody sends
 unfoldable pub noSender : Sender
-noSender = record { role = Initiator; tid = 0; class = 0; «user_ack» = false; start = 0; len = 0; «exit_start» = 0; «exit_len» = 0 }
+noSender = record { role = Initiator; tid = 0; class = 0; «user_ack» = false; tidnew = false; start = 0; len = 0; «exit_start» = 0; «exit_len» = 0 }
 
 -- a call that changes nothing but the time
 unfoldable pub idleChanges : ℕ → Changes
-idleChanges time = record { place = 0; change = Change.Nothing; exit = false; «gen_tid» = TidChange.Unchanged; peer = 0; cached = TidChange.Unchanged; time = time }
+idleChanges time = record { place = 0; change = Change.Nothing; exit = false; «gen_tid» = GenTidChange.Unchanged; peer = 0; cached = TidChange.Unchanged; time = time }
 
 -- 01: "An accepted call stores its time", also where a PDU is ignored or none is due
 unfoldable pub idleStep : ℕ → Step

@@ -22,7 +22,7 @@ pub struct Part {
     pub len: usize,
 }
 
-// Whose turn it is: the record's place and name, its class and U/P, and the length of the message in its cell.
+// Whose turn it is: the record's place and name, its class, U/P and TIDnew, and the length of the message in its cell.
 pub struct Holder {
     pub place: usize,
     pub role: Role,
@@ -30,6 +30,7 @@ pub struct Holder {
     pub tid: u16,
     pub class: u8,
     pub up: bool,
+    pub tidnew: bool,
     pub len: u32,
 }
 
@@ -111,15 +112,17 @@ pub fn sender_of(turn: Turn, h: Holder, c: Call) -> Sender
     let after = turn.after;
     let role = h.role;
     let message = message_of(send, h, c);
+    let exit_len = base_lists::size(after.exit_len);
     Sender {
         role: role,
         tid: h.tid,
         class: h.class,
         user_ack: h.up,
+        tidnew: h.tidnew,
         start: message.start,
         len: message.len,
         exit_start: HEADER_SIZE + h.place * RECORD_SIZE + EXIT_OFFSET,
-        exit_len: after.exit_len as usize,
+        exit_len: exit_len,
     }
 }
 

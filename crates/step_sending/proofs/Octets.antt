@@ -40,11 +40,11 @@ unfolding lastAckPdu plainPdu exitItems octetsOf headerOf typeNumber flagsOf ext
 last-ack s true by = picked (octetsOf s) (eqb (by .«exit_len») 0) _ _ _ _ refl (ap (withTid by 0x99) (exit-item s by))
 last-ack s false by = picked (octetsOf s) (eqb (by .«exit_len») 0) _ _ _ _ refl (ap (withTid by 0x98) (exit-item s by))
 
--- version 0 and TIDnew clear leave U/P and the class
+-- version 0 leaves TIDnew, U/P and the class
 invoke-octet : (s : List ℕ) (by : Sender) (first : ℕ)
-    → withTid by first ((0 + bit (by .«user_ack») * 16 + by .class) ∷ message s by) ≡ withTid by first ((bit (by .«user_ack») * 16 + by .class) ∷ message s by)
+    → withTid by first ((0 + bit (by .tidnew) * 32 + bit (by .«user_ack») * 16 + by .class) ∷ message s by) ≡ withTid by first ((bit (by .tidnew) * 32 + bit (by .«user_ack») * 16 + by .class) ∷ message s by)
 invoke-octet s by first =
-    let e : 0 + bit (by .«user_ack») * 16 + by .class ≡ bit (by .«user_ack») * 16 + by .class = omega arith in
+    let e : 0 + bit (by .tidnew) * 32 + bit (by .«user_ack») * 16 + by .class ≡ bit (by .tidnew) * 32 + bit (by .«user_ack») * 16 + by .class = omega arith in
     ap (λ (o : ℕ). withTid by first (o ∷ message s by)) e
 
 pub octets-are : (s : List ℕ) (send : Send) (by : Sender) → FitSend s send by → octetsOf s (sentPdu send by) ≡ octetsSent s send by

@@ -32,7 +32,7 @@ exitOctets s by = pick (ltb 3 (by .«exit_len»)) (0x0C ∷ by .«exit_len» ∷
 -- a repeat's first octet is one more: "A repeat sets RID"
 unfoldable pub octetsSent : List ℕ → Send → Sender → List ℕ
 octetsSent s Nothing by = []
-octetsSent s (Invoke again) by = withTid by (0x0E + bit again) ((bit (by .«user_ack») * 16 + by .class) ∷ message s by)
+octetsSent s (Invoke again) by = withTid by (0x0E + bit again) ((bit (by .tidnew) * 32 + bit (by .«user_ack») * 16 + by .class) ∷ message s by)
 octetsSent s (Tidok again) by = withTid by (0x1C + bit again) []
 octetsSent s (LastAck again) by =
     pick (eqb (by .«exit_len») 0)

@@ -28,9 +28,9 @@ tidOf by = sendTid (by .role) (by .tid % tidCount)
 unfoldable pub plainPdu : Kind → Sender → ℕ → ℕ → Pdu
 plainPdu kind by start len = record { kind = kind; tid = tidOf by; count = 0; list = replicate 16 noItem; start = start; len = len }
 
--- "We write [..] GTR = TTR = 1"; version 0; "TIDnew is read without effect, and our Invokes clear it"; U/P is the user acknowledgement
+-- "We write [..] GTR = TTR = 1"; version 0; 02, L2: "Our initiator sets the flag" TIDnew where it is due; U/P is the user acknowledgement
 abbrev pub invokeKind : Bool → Sender → Kind
-invokeKind rid by = Kind.Invoke true true rid 0 false (by .«user_ack») (by .class)
+invokeKind rid by = Kind.Invoke true true rid 0 (by .tidnew) (by .«user_ack») (by .class)
 
 -- 01: "We write exit information as Info item 1, short to length 3"
 abbrev pub exitItem : Sender → Item

@@ -18,6 +18,7 @@ pub struct Sender {
     pub tid: u16,
     pub class: u8,
     pub user_ack: bool,
+    pub tidnew: bool,
     pub start: usize,
     pub len: usize,
     pub exit_start: usize,
@@ -57,7 +58,7 @@ fn put_invoke(out: &mut [u8], src: &[u8], again: bool, by: Sender) -> usize
     ensures { λ r. ⌜ (r ≡ length (octetsSent (now (src .entry)) (Invoke again) by)) × (now (out .exit) ≡ put (now (out .entry)) 0 (octetsSent (now (src .entry)) (Invoke again) by)) ⌝ }
 {
     put_head(&mut *out, 0x0E + base_lists::bit(again), by);
-    out[3] = base_lists::bit(by.user_ack) * 16 + by.class;
+    out[3] = codec_encoding::invoke_octet(0, by.tidnew, by.user_ack, by.class);
     base_lists::copy(out, 4, src, by.start, by.len);
     4 + by.len
 }

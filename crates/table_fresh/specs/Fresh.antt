@@ -1,10 +1,10 @@
 -- The fresh-table call (01, "What the reader carries" and "Numbers given back", 1 and 10).
 use Prim.Native.Nat.{ℕ, zero, suc, _+_, _*_, _-_, _%_}
-use mathlib.Core.List.{List, [], _++_}
+use mathlib.Core.List.{List, [], _∷_, _++_}
 use mathlib.Core.Bool.{Bool, false}
 use lib.ListN.{length, getD, replicate}
 use lib.Dec.{ltb, leb, eqb}
-use Rattle.base_layout.specs.Layout.{headerSize, recordSize, genTidAt, headerSpareSize, base, intervalBound, maximumBound, tidBound, peers, recordsBound}
+use Rattle.base_layout.specs.Layout.{headerSize, recordSize, genTidAt, headerSpare1Size, headerSpare2Size, base, intervalBound, maximumBound, tidBound, peers, recordsBound}
 use Rattle.base_numbers.specs.Numbers.{numberOf}
 use Rattle.base_numbers.specs.declared.Refusal.the-variants.{WrongSize, WrongSetting}
 use Rattle.base_lists.specs.Seq.{pick, every}
@@ -55,9 +55,13 @@ fourEach (suc n) k ws = enc 4 (getD ws k 0) ++ fourEach n (k + 1) ws
 unfoldable pub fieldsOf : List ℕ → ℕ → List ℕ
 fieldsOf ws first = enc 2 first ++ (enc 1 (getD ws 0 0) ++ (enc 1 (getD ws 1 0) ++ fourEach 20 2 ws))
 
--- 01: the fresh-table call "leaves no live record, no cached TID and clock 0": the clock, the fields, 20 spare octets, 256 cached TIDs of 2, n records
+-- 02, L2: "on its first class 1 or 2 Invoke from a fresh table": TIDnew is due, between the spare octets
+unfoldable pub tidnewIsDue : List ℕ → List ℕ
+tidnewIsDue rest = zeros headerSpare1Size ++ (1 ∷ rest)
+
+-- 01: the fresh-table call "leaves no live record, no cached TID and clock 0": the clock, the fields, 5 spare octets, TIDnew due, 14 spare octets, 256 cached TIDs of 2, n records
 unfoldable pub freshTable : ℕ → List ℕ → ℕ → List ℕ
-freshTable n ws first = zeros genTidAt ++ (fieldsOf ws first ++ zeros (headerSpareSize + peers * 2 + n * recordSize))
+freshTable n ws first = zeros genTidAt ++ (fieldsOf ws first ++ tidnewIsDue (zeros (headerSpare2Size + peers * 2 + n * recordSize)))
 
 -- 01: "A refusal gives only its number and changes no lent byte"
 unfoldable pub tableAfterFresh : Fresh → List ℕ → List ℕ → ℕ → List ℕ

@@ -2,7 +2,7 @@
 ghost use mathlib.Core.Path.{_≡_};
 ghost use Prim.Native.Nat.{_+_, _≤_};
 ghost use lib.ListN.{length};
-ghost use Rattle.base_layout.specs.Layout.{aAt, headerSpareAt, base};
+ghost use Rattle.base_layout.specs.Layout.{aAt, headerSpare1At, base};
 ghost use Rattle.base_lists.specs.Seq.{put};
 ghost use Rattle.base_octets.specs.Octets.{enc};
 ghost use Rattle.table_layout.specs.Table.{count};
@@ -136,7 +136,7 @@ fn put_number(t: &mut [u8], at: usize, width: usize, v: u64)
 
 // A, W and the 18 R.
 fn put_intervals(t: &mut [u8], ws: &[u64])
-    requires { ⌜ (headerSpareAt ≤ length (now t)) × (22 ≤ length (now ws)) ⌝ }
+    requires { ⌜ (headerSpare1At ≤ length (now t)) × (22 ≤ length (now ws)) ⌝ }
     ensures { λ _. ⌜ now (t .exit) ≡ put (now (t .entry)) aAt (fourEach 20 2 (now (ws .entry))) ⌝ }
 {
     let mut k = 0;
@@ -154,7 +154,8 @@ fn put_fresh(t: &mut [u8], ws: &[u64], first: u64)
     put_number(t, base_layout::GEN_TID_AT, 2, first);
     put_number(t, base_layout::RCR_MAX_AT, 1, ws[0]);
     put_number(t, base_layout::AEC_MAX_AT, 1, ws[1]);
-    put_intervals(t, ws);
+    put_intervals(&mut *t, ws);
+    put_number(t, base_layout::TIDNEW_DUE_AT, 1, 1);
 }
 
 // Makes the table fresh: no live record, no cached TID, clock 0.

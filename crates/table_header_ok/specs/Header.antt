@@ -4,7 +4,7 @@ use mathlib.Core.List.{List, [], _∷_}
 use mathlib.Core.Bool.{Bool}
 use lib.ListN.{getD}
 use lib.Dec.{leb}
-use Rattle.base_layout.specs.Layout.{row1At, headerSpareAt, headerSpareSize, timeBound, maximumBound, tidBound, cachedBound, peers}
+use Rattle.base_layout.specs.Layout.{row1At, tidnewDueAt, headerSpare1At, headerSpare1Size, headerSpare2At, headerSpare2Size, timeBound, maximumBound, tidBound, cachedBound, peers}
 use Rattle.base_lists.specs.Seq.{every}
 use Rattle.base_octets.specs.Octets.{num, gets}
 use Rattle.table_layout.specs.Table.{clockOf, genTidOf, settingsOf, intervalsOf, cachedOf}
@@ -27,7 +27,9 @@ pub record HeaderOk (t : List ℕ) : Type 0 where
   pub clock : clockOf t ≤ timeBound
   pub gen-tid : genTidOf t ≤ tidBound
   pub settings : SettingsOk (settingsOf t)
-  pub spare : Zeros t headerSpareAt headerSpareSize
+  pub tidnew-due : getD t tidnewDueAt 0 ≤ 1
+  pub spare-1 : Zeros t headerSpare1At headerSpare1Size
+  pub spare-2 : Zeros t headerSpare2At headerSpare2Size
   pub rows : RowsOk (intervalsOf t)
   pub cached : (peer : ℕ) → peer < peers → cachedOf t peer ≤ cachedBound
 
@@ -37,6 +39,17 @@ settingsTests s = leb (s .«rcr_max») maximumBound ∷ leb (s .«aec_max») max
 
 unfoldable pub settingsOk : Settings → Bool
 settingsOk s = allOf (settingsTests s)
+
+-- the test of the spare octets, and of the flag of TIDnew between them (02, L2: 0 or 1)
+abbrev pub spareTests : List ℕ → List Bool
+spareTests t =
+    zeros t headerSpare1At headerSpare1Size
+    ∷ leb (getD t tidnewDueAt 0) 1
+    ∷ zeros t headerSpare2At headerSpare2Size
+    ∷ []
+
+unfoldable pub spareOk : List ℕ → Bool
+spareOk t = allOf (spareTests t)
 
 -- the k-th of the 18 intervals, row after row
 unfoldable pub intervalAt : List ℕ → ℕ → ℕ
@@ -48,7 +61,7 @@ headerTests t =
     leb (clockOf t) timeBound
     ∷ leb (genTidOf t) tidBound
     ∷ settingsOk (settingsOf t)
-    ∷ zeros t headerSpareAt headerSpareSize
+    ∷ spareOk t
     ∷ every (λ k. interval (intervalAt t k)) 18
     ∷ every (λ peer. leb (cachedOf t peer) cachedBound) peers
     ∷ []

@@ -3,16 +3,17 @@ ghost use mathlib.Core.Path.{_≡_};
 ghost use Prim.Native.Nat.{_≤_, _<_};
 ghost use lib.ListN.{length};
 ghost use lib.Dec.{leb};
-ghost use Rattle.base_layout.specs.Layout.{headerSize, headerSpareAt, headerSpareSize, cachedBound, peers};
+ghost use Rattle.base_layout.specs.Layout.{headerSize, cachedBound, peers};
 ghost use Rattle.base_lists.specs.Seq.{every, pick};
 ghost use Rattle.table_layout.specs.Table.{cachedOf};
-ghost use Rattle.table_ranges.specs.Ranges.{interval, zeros};
-ghost use Rattle.table_header_ok.specs.Header.{settingsOk, intervalAt, headerOk};
-use base_layout::HEADER_SPARE_AT;
+ghost use Rattle.table_ranges.specs.Ranges.{interval};
+ghost use Rattle.table_header_ok.specs.Header.{settingsOk, spareOk, intervalAt, headerOk};
 use table_layout::Settings;
 
-// The spare octets after the first four, as words of eight.
-const SPARE_WORDS_AT: usize = HEADER_SPARE_AT + 4;
+// How many spare octets stand before and after the flag of TIDnew.
+const SPARE_1_SIZE: usize = base_layout::TIDNEW_DUE_AT - base_layout::HEADER_SPARE_1_AT;
+
+const SPARE_2_SIZE: usize = base_layout::CACHED_AT - base_layout::HEADER_SPARE_2_AT;
 
 pub fn settings_ok(s: Settings) -> bool
     ensures { λ r. ⌜ r ≡ settingsOk s ⌝ }
@@ -29,14 +30,18 @@ pub fn settings_ok(s: Settings) -> bool
     table_ranges::interval_ok(s.w)
 }
 
+// The spare octets, and between them the flag of TIDnew.
 fn spare_ok(t: &[u8]) -> bool
     requires { ⌜ headerSize ≤ length (now t) ⌝ }
-    ensures { λ r. ⌜ r ≡ zeros (now (t .entry)) headerSpareAt headerSpareSize ⌝ }
+    ensures { λ r. ⌜ r ≡ spareOk (now (t .entry)) ⌝ }
 {
-    if !table_ranges::zero4(t, HEADER_SPARE_AT) {
+    if !table_ranges::zero_octets(t, base_layout::HEADER_SPARE_1_AT, SPARE_1_SIZE) {
         return false;
     }
-    table_ranges::zero_words(t, SPARE_WORDS_AT, 2)
+    if t[base_layout::TIDNEW_DUE_AT] > 1 {
+        return false;
+    }
+    table_ranges::zero_octets(t, base_layout::HEADER_SPARE_2_AT, SPARE_2_SIZE)
 }
 
 fn rows_ok(t: &[u8]) -> bool

@@ -5,12 +5,13 @@ use mathlib.Core.Logic.{inl, inr}
 use Prim.Native.Nat.{ℕ, zero, suc, _+_, _*_, _≤_}
 use native.Mathlib.Omega.{arith}
 use lib.ListN.{length, getD}
-use Rattle.base_layout.specs.Layout.{fieldsSize, cachedAt, base}
+use lib.Dec.{eqb}
+use Rattle.base_layout.specs.Layout.{fieldsSize, tidnewDueAt, cachedAt, base}
 use Rattle.base_lists.specs.Seq.{put}
 use Rattle.base_octets.specs.Octets.{num, Apart}
 use Rattle.base_octets.proofs.StoredAndRead.{gets-apart, getD-before, getD-after}
 use Rattle.table_record.specs.Record.{decoded}
-use Rattle.table_layout.specs.Table.{clockOf, genTidOf, fours, settingsOf, intervalsOf, cachedOf, recordAt}
+use Rattle.table_layout.specs.Table.{clockOf, genTidOf, fours, settingsOf, intervalsOf, cachedOf, recordAt, tidnewDueOf}
 
 pub clock-apart : (t : List ℕ) (b : ℕ) (w : List ℕ) → 8 ≤ b → clockOf (put t b w) ≡ clockOf t
 unfolding clockOf
@@ -23,6 +24,10 @@ gen-tid-apart t b w h = ap num (gets-apart 2 8 t b w h)
 pub octet-apart : (t : List ℕ) (b : ℕ) (w : List ℕ) (k : ℕ) → Apart k 1 b (length w) → getD (put t b w) k 0 ≡ getD t k 0
 octet-apart t b w k (inl h) = getD-before w t b k (omega arith)
 octet-apart t b w k (inr h) = getD-after w t b k h
+
+pub tidnew-due-apart : (t : List ℕ) (b : ℕ) (w : List ℕ) → Apart tidnewDueAt 1 b (length w) → tidnewDueOf (put t b w) ≡ tidnewDueOf t
+unfolding tidnewDueOf
+tidnew-due-apart t b w h = ap (λ (n : ℕ). eqb n 1) (octet-apart t b w tidnewDueAt h)
 
 -- the settings lie from 10 to 92
 pub settings-apart : (t : List ℕ) (b : ℕ) (w : List ℕ) → Apart 10 82 b (length w) → settingsOf (put t b w) ≡ settingsOf t

@@ -1,9 +1,11 @@
 -- The octets of a table (01, "What the reader carries"): a header, then 1 to 48 records.
 use Prim.Native.Nat.{ℕ, zero, suc, _+_, _*_, _-_, _/_}
 use mathlib.Core.List.{List, [], _∷_}
+use mathlib.Core.Bool.{Bool}
 use lib.ListN.{length, getD, replicate}
-use Rattle.base_layout.specs.Layout.{headerSize, recordSize, fieldsSize, clockAt, genTidAt, rcrMaxAt, aecMaxAt, aAt, wAt, row1At, row2At, cachedAt, base}
-use Rattle.base_lists.specs.Seq.{put}
+use lib.Dec.{eqb}
+use Rattle.base_layout.specs.Layout.{headerSize, recordSize, fieldsSize, clockAt, genTidAt, rcrMaxAt, aecMaxAt, aAt, wAt, row1At, row2At, tidnewDueAt, cachedAt, base}
+use Rattle.base_lists.specs.Seq.{bit, put}
 use Rattle.base_octets.specs.Octets.{num, enc, gets}
 use Rattle.table_record.specs.Record.{decoded, octetsOf}
 use Rattle.table_record.specs.declared.Record.{Record}
@@ -20,6 +22,10 @@ clockOf t = num (gets 8 clockAt t)
 -- the TID of the next request
 unfoldable pub genTidOf : List ℕ → ℕ
 genTidOf t = num (gets 2 genTidAt t)
+
+-- 02, L2: whether the next Invoke of class 1 or 2 carries TIDnew
+unfoldable pub tidnewDueOf : List ℕ → Bool
+tidnewDueOf t = eqb (getD t tidnewDueAt 0) 1
 
 -- RCR_MAX, AEC_MAX, A and W
 unfoldable pub settingsOf : List ℕ → Settings
@@ -55,6 +61,9 @@ putClock t time = put t clockAt (enc 8 time)
 
 unfoldable pub putGenTid : List ℕ → ℕ → List ℕ
 putGenTid t tid = put t genTidAt (enc 2 tid)
+
+unfoldable pub putTidnewDue : List ℕ → Bool → List ℕ
+putTidnewDue t due = put t tidnewDueAt (bit due ∷ [])
 
 unfoldable pub putCached : List ℕ → ℕ → ℕ → List ℕ
 putCached t peer cached = put t (cachedAt + peer * 2) (enc 2 cached)

@@ -3,7 +3,7 @@ ghost use mathlib.Core.Path.{_≡_};
 ghost use Prim.Native.Nat.{_+_, _*_, _≤_, _<_};
 ghost use lib.ListN.{length};
 ghost use Rattle.base_layout.specs.Layout.{headerSize, recordSize, peers};
-ghost use Rattle.table_layout.specs.Table.{count, clockOf, genTidOf, settingsOf, fours, intervalsOf, cachedOf, recordAt, putRecord, clearRecord, putClock, putGenTid, putCached};
+ghost use Rattle.table_layout.specs.Table.{count, clockOf, genTidOf, settingsOf, fours, intervalsOf, cachedOf, recordAt, putRecord, clearRecord, putClock, putGenTid, putCached, tidnewDueOf, putTidnewDue};
 use base_layout::HEADER_SIZE;
 use base_layout::RECORD_SIZE;
 use table_record::Record;
@@ -36,6 +36,14 @@ pub fn gen_tid_of(t: &[u8]) -> u16
     ensures { λ r. ⌜ r ≡ genTidOf (now (t .entry)) ⌝ }
 {
     base_octets::get16(t, base_layout::GEN_TID_AT)
+}
+
+// Whether the next Invoke of class 1 or 2 carries TIDnew.
+pub fn tidnew_due(t: &[u8]) -> bool
+    requires { ⌜ headerSize ≤ length (now t) ⌝ }
+    ensures { λ r. ⌜ r ≡ tidnewDueOf (now (t .entry)) ⌝ }
+{
+    t[base_layout::TIDNEW_DUE_AT] == 1
 }
 
 pub fn settings_of(t: &[u8]) -> Settings
@@ -122,6 +130,14 @@ pub fn put_gen_tid(t: &mut [u8], tid: u16)
 {
     let w = base_octets::bytes16(tid);
     base_lists::store(t, base_layout::GEN_TID_AT, &w);
+}
+
+pub fn put_tidnew_due(t: &mut [u8], due: bool)
+    requires { ⌜ headerSize ≤ length (now t) ⌝ }
+    ensures { λ _. ⌜ now (t .exit) ≡ putTidnewDue (now (t .entry)) due ⌝ }
+{
+    let w = [base_lists::bit(due)];
+    base_lists::store(t, base_layout::TIDNEW_DUE_AT, &w);
 }
 
 pub fn put_cached(t: &mut [u8], peer: usize, cached: u16)

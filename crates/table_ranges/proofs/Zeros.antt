@@ -78,3 +78,10 @@ num-zeros n at t = same-test _ _
 -- a loop that gathers words: one more, over its width
 pub zeros-more : (t : List ℕ) (at m n c : ℕ) → eqb c 0 ≡ zeros t at m → eqb (bitOr c (num (gets n (at + m) t))) 0 ≡ zeros t at (m + n)
 zeros-more t at m n c e = or-none c (num (gets n (at + m) t)) ∙ rw (e, num-zeros n (at + m) t) (zeros-join t at m n)
+
+-- and a loop that gathers octets
+pub zeros-one-more : (t : List ℕ) (at m c : ℕ) → eqb c 0 ≡ zeros t at m → eqb (bitOr c (getD t (at + m) 0)) 0 ≡ zeros t at (m + 1)
+unfolding num gets
+zeros-one-more t at m c e =
+    let octet : num (gets 1 (at + m) t) ≡ getD t (at + m) 0 = omega arith in
+    rw octet at (zeros-more t at m 1 c e)

@@ -36,6 +36,20 @@ pub fn interval_ok(v: u32) -> bool
     }
 }
 
+// Whether n octets are zero.
+pub fn zero_octets(t: &[u8], at: usize, n: usize) -> bool
+    requires { ⌜ at + n ≤ length (now t) ⌝ }
+    ensures { λ r. ⌜ r ≡ zeros (now (t .entry)) at n ⌝ }
+{
+    let mut bits = 0u8;
+    let mut i = 0;
+    while i < n {
+        bits = bits | t[at + i];
+        i += 1;
+    }
+    bits == 0
+}
+
 pub fn zero4(t: &[u8], at: usize) -> bool
     requires { ⌜ at + 4 ≤ length (now t) ⌝ }
     ensures { λ r. ⌜ r ≡ zeros (now (t .entry)) at 4 ⌝ }

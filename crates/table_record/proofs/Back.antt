@@ -38,24 +38,25 @@ bit-back : (b : Bool) (x : ℕ) → x ≡ bit b → eqb x 1 ≡ b
 bit-back true x e = rw e
 bit-back false x e = rw e
 
-pub flags-small : (r : Record) → flagsOf r < 16
+pub flags-small : (r : Record) → flagsOf r < 32
 unfolding flagsOf
-flags-small r = omega (arith, bit-le (r .«user_ack»), bit-le (r .«hold_on»), bit-le (r .«tidok_sent»), bit-le (r .«hold_on_sent»))
+flags-small r = omega (arith, bit-le (r .«user_ack»), bit-le (r .«hold_on»), bit-le (r .«tidok_sent»), bit-le (r .«hold_on_sent»), bit-le (r .tidnew))
 
-module _ (a b c d : Bool) where
+module _ (a b c d e : Bool) where
   abbrev flags : ℕ
-  flags = bit a + 2 * bit b + 4 * bit c + 8 * bit d
+  flags = bit a + 2 * bit b + 4 * bit c + 8 * bit d + 16 * bit e
 
-  flags-back : (eqb (flags % 2) 1 ≡ a) × (eqb (flags / 2 % 2) 1 ≡ b) × (eqb (flags / 4 % 2) 1 ≡ c) × (eqb (flags / 8 % 2) 1 ≡ d)
+  flags-back : (eqb (flags % 2) 1 ≡ a) × (eqb (flags / 2 % 2) 1 ≡ b) × (eqb (flags / 4 % 2) 1 ≡ c) × (eqb (flags / 8 % 2) 1 ≡ d) × (eqb (flags / 16 % 2) 1 ≡ e)
   flags-back = (
-    bit-back a (flags % 2) (omega (arith, bit-le a, bit-le b, bit-le c, bit-le d)),
-    bit-back b (flags / 2 % 2) (omega (arith, bit-le a, bit-le b, bit-le c, bit-le d)),
-    bit-back c (flags / 4 % 2) (omega (arith, bit-le a, bit-le b, bit-le c, bit-le d)),
-    bit-back d (flags / 8 % 2) (omega (arith, bit-le a, bit-le b, bit-le c, bit-le d)),
+    bit-back a (flags % 2) (omega (arith, bit-le a, bit-le b, bit-le c, bit-le d, bit-le e)),
+    bit-back b (flags / 2 % 2) (omega (arith, bit-le a, bit-le b, bit-le c, bit-le d, bit-le e)),
+    bit-back c (flags / 4 % 2) (omega (arith, bit-le a, bit-le b, bit-le c, bit-le d, bit-le e)),
+    bit-back d (flags / 8 % 2) (omega (arith, bit-le a, bit-le b, bit-le c, bit-le d, bit-le e)),
+    bit-back e (flags / 16 % 2) (omega (arith, bit-le a, bit-le b, bit-le c, bit-le d, bit-le e)),
   )
 
 pub decoded-back : (r : Record) → Fits r → decoded (octetsOf r) ≡ r
 unfolding decoded octetsOf enc gets flagsOf
 decoded-back r h =
-    let f = flags-back (r .«user_ack») (r .«hold_on») (r .«tidok_sent») (r .«hold_on_sent») in
-    simp (state-back (r .state), num-enc 2 (r .tid) (h .tid), num-enc 8 (r .deadline) (h .deadline), num-enc 4 (r .len) (h .len), f .0, f .1, f .2, f .3)
+    let f = flags-back (r .«user_ack») (r .«hold_on») (r .«tidok_sent») (r .«hold_on_sent») (r .tidnew) in
+    simp (state-back (r .state), num-enc 2 (r .tid) (h .tid), num-enc 8 (r .deadline) (h .deadline), num-enc 4 (r .len) (h .len), f .0, f .1, f .2, f .3, f .4)

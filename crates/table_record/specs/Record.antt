@@ -86,9 +86,9 @@ abbrev pub rcvTid : Role → ℕ → ℕ
 rcvTid Initiator tid = tid + tidCount
 rcvTid Responder tid = tid
 
--- the four flags in one octet
+-- the five flags in one octet
 unfoldable pub flagsOf : Record → ℕ
-flagsOf r = bit (r .«user_ack») + 2 * bit (r .«hold_on») + 4 * bit (r .«tidok_sent») + 8 * bit (r .«hold_on_sent»)
+flagsOf r = bit (r .«user_ack») + 2 * bit (r .«hold_on») + 4 * bit (r .«tidok_sent») + 8 * bit (r .«hold_on_sent») + 16 * bit (r .tidnew)
 
 -- the fields of 20 octets: state, peer, TID, RCR, AEC, flags, length of the exit information, deadline, message length
 unfoldable pub decoded : List ℕ → Record
@@ -100,6 +100,7 @@ decoded w = record {
   «hold_on» = eqb (getD w flagsOffset 0 / 2 % 2) 1;
   «tidok_sent» = eqb (getD w flagsOffset 0 / 4 % 2) 1;
   «hold_on_sent» = eqb (getD w flagsOffset 0 / 8 % 2) 1;
+  tidnew = eqb (getD w flagsOffset 0 / 16 % 2) 1;
   rcr = record { 0 = getD w rcrOffset 0 };
   aec = record { 0 = getD w aecOffset 0 };
   «exit_len» = getD w exitLenOffset 0;

@@ -48,6 +48,7 @@ pub struct Record {
     pub hold_on: bool,
     pub tidok_sent: bool,
     pub hold_on_sent: bool,
+    pub tidnew: bool,
     pub rcr: Rcr,
     pub aec: Aec,
     pub exit_len: u8,
@@ -159,6 +160,7 @@ fn flags_of(r: Record) -> u8
         + 2 * base_lists::bit(r.hold_on)
         + 4 * base_lists::bit(r.tidok_sent)
         + 8 * base_lists::bit(r.hold_on_sent)
+        + 16 * base_lists::bit(r.tidnew)
 }
 
 // The record of 20 octets.
@@ -176,6 +178,7 @@ pub fn decode(w: &[u8]) -> Record
         hold_on: f / 2 % 2 == 1,
         tidok_sent: f / 4 % 2 == 1,
         hold_on_sent: f / 8 % 2 == 1,
+        tidnew: f / 16 % 2 == 1,
         rcr: Rcr(w[base_layout::RCR_OFFSET]),
         aec: Aec(w[base_layout::AEC_OFFSET]),
         exit_len: w[base_layout::EXIT_LEN_OFFSET],

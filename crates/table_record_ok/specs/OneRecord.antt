@@ -6,8 +6,10 @@ use mathlib.Core.Logic.{_⊎_}
 use lib.ListN.{getD}
 use lib.Dec.{leb, eqb}
 use Rattle.base_layout.specs.Layout.{recordSize, spareSize, base, flagsAt, spareBase, deadlineBound, tidBound, peerBound, peers, exitBound, cellSize, stateBound, flagsBound}
-use Rattle.base_lists.specs.Seq.{pick}
-use Rattle.table_record.specs.Record.{stateNumber}
+use Rattle.base_lists.specs.Seq.{pick, bit}
+use Rattle.table_record.specs.Record.{stateNumber, roleOf}
+use Rattle.table_record.specs.declared.Role.{Role}
+use Rattle.table_record.specs.declared.Role.the-variants.{Initiator, Responder}
 use Rattle.table_record.specs.declared.Record.{Record}
 use Rattle.table_layout.specs.Table.{recordAt}
 use Rattle.table_layout.specs.declared.Settings.{Settings}
@@ -17,6 +19,11 @@ use Rattle.table_ranges.specs.Ranges.{Zeros, zeros, allOf}
 abbrev pub Live : Record → Type 0
 Live r = 1 ≤ stateNumber (r .state)
 
+-- 02, L2, "Our initiator sets the flag": TIDnew of a record is 0 or 1, a responder's 0
+abbrev pub tidnewBound : Role → ℕ
+tidnewBound Initiator = 1
+tidnewBound Responder = 0
+
 -- 01: "RCR and AEC to their maxima, deadlines to the time bound plus 86,400,000", and the bounds of TIDs, exit information and messages
 pub record Bounded (s : Settings) (r : Record) : Type 0 where
   pub tid : r .tid ≤ tidBound
@@ -25,6 +32,7 @@ pub record Bounded (s : Settings) (r : Record) : Type 0 where
   pub exit : r .«exit_len» ≤ exitBound
   pub deadline : r .deadline ≤ deadlineBound
   pub message : r .len ≤ cellSize
+  pub tidnew : bit (r .tidnew) ≤ tidnewBound (roleOf (r .state))
   pub peer : r .peer < peers
 
 -- 01: "all fields are in range (a state for its role and class, ..)": a live record within its bounds
@@ -54,6 +62,7 @@ rangeTests s r =
     ∷ leb (r .«exit_len») exitBound
     ∷ leb (r .deadline) deadlineBound
     ∷ leb (r .len) cellSize
+    ∷ leb (bit (r .tidnew)) (tidnewBound (roleOf (r .state)))
     ∷ leb (r .peer) peerBound
     ∷ []
 

@@ -2,13 +2,17 @@
 ghost use mathlib.Core.Path.{_≡_};
 ghost use Prim.Native.Nat.{_+_, _*_, _≤_};
 ghost use lib.ListN.{length};
+ghost use lib.Dec.{leb};
 ghost use Rattle.base_layout.specs.Layout.{headerSize, recordSize, spareSize, spareBase};
+ghost use Rattle.base_lists.specs.Seq.{bit};
+ghost use Rattle.table_record.specs.Record.{roleOf};
 ghost use Rattle.table_ranges.specs.Ranges.{zeros};
-ghost use Rattle.table_record_ok.specs.OneRecord.{inRange, liveOk, recordOk};
+ghost use Rattle.table_record_ok.specs.OneRecord.{tidnewBound, inRange, liveOk, recordOk};
 use base_layout::HEADER_SIZE;
 use base_layout::RECORD_SIZE;
 use table_layout::Settings;
 use table_record::Record;
+use table_record::Role;
 
 // Bounds as wide as the fields.
 const EXIT_BOUND: u8 = base_layout::EXIT_BOUND as u8;
@@ -21,6 +25,24 @@ const PEER_BOUND: u8 = base_layout::PEER_BOUND as u8;
 const RECORD_WORDS: usize = RECORD_SIZE / 8;
 
 const SPARE_WORDS: usize = (base_layout::SPARE_SIZE - 4) / 8;
+
+// Only an initiator's Invoke carries TIDnew.
+fn tidnew_bound(role: Role) -> u8
+    ensures { λ n. ⌜ n ≡ tidnewBound role ⌝ }
+{
+    match role {
+        Role::Initiator => 1,
+        Role::Responder => 0,
+    }
+}
+
+fn tidnew_ok(r: Record) -> bool
+    ensures { λ b. ⌜ b ≡ leb (bit (r .tidnew)) (tidnewBound (roleOf (r .state))) ⌝ }
+{
+    let state = r.state;
+    let bound = tidnew_bound(table_record::role_of(state));
+    base_lists::bit(r.tidnew) <= bound
+}
 
 fn in_range(s: Settings, r: Record) -> bool
     ensures { λ b. ⌜ b ≡ inRange s r ⌝ }
@@ -41,6 +63,9 @@ fn in_range(s: Settings, r: Record) -> bool
         return false;
     }
     if r.len > CELL_SIZE {
+        return false;
+    }
+    if !tidnew_ok(r) {
         return false;
     }
     r.peer <= PEER_BOUND

@@ -1,6 +1,7 @@
--- The TID test and GenTID (01, "TIDs"), and the interval R[RCR] (01, "What the reader carries").
+-- The TID test and GenTID (01, "TIDs"), TIDnew (02, L2), and the interval R[RCR] (01, "What the reader carries").
 use Prim.Native.Nat.{ℕ, _+_, _-_, _%_}
 use mathlib.Core.List.{List, []}
+use mathlib.Core.Bool.{Bool, true, false}
 use lib.ListN.{getD}
 use lib.Dec.{leb, eqb}
 use Rattle.base_layout.specs.Layout.{tidCount}
@@ -24,6 +25,14 @@ testOf cached tid =
 -- 01: "GenTID counts modulo 32,768"
 abbrev pub nextTid : ℕ → ℕ
 nextTid tid = (tid + 1) % tidCount
+
+-- 02, L2: "Our initiator sets the flag on its first class 1 or 2 Invoke from a fresh table, and on the first after GenTID has come back to 0"
+unfoldable pub carriesTidnew : ℕ → Bool → Bool
+carriesTidnew class due = pick (eqb class 0) false due
+
+-- and so it is due after a request that brings GenTID to 0, and stays due after one of class 0
+unfoldable pub dueAfter : ℕ → Bool → ℕ → Bool
+dueAfter class due next = pick (eqb next 0) true (pick (eqb class 0) due false)
 
 -- the row of a class, the first being 0
 abbrev pub rowNumber : ℕ → ℕ

@@ -1,7 +1,7 @@
-// The TID test, the next GenTID, and the interval of a class and RCR.
+// The TID test, the next GenTID, TIDnew, and the interval of a class and RCR.
 ghost use mathlib.Core.Path.{_≡_};
 ghost use Prim.Native.Nat.{_<_};
-ghost use Rattle.table_tids.specs.Tids.{distance, testOf, nextTid, rowNumber, intervalOf};
+ghost use Rattle.table_tids.specs.Tids.{distance, testOf, nextTid, carriesTidnew, dueAfter, rowNumber, intervalOf};
 use base_layout::TID_COUNT;
 use table_record::Rcr;
 
@@ -42,6 +42,23 @@ pub fn next_tid(tid: u16) -> u16
     ensures { λ r. ⌜ r ≡ nextTid tid ⌝ }
 {
     (tid % TID_COUNT + 1) % TID_COUNT
+}
+
+// Whether a request's Invoke carries TIDnew, where it is due or not.
+pub fn carries_tidnew(class: u8, due: bool) -> bool
+    ensures { λ r. ⌜ r ≡ carriesTidnew class due ⌝ }
+{
+    if class == 0 { false } else { due }
+}
+
+// Whether TIDnew is due after a request that leaves this GenTID.
+pub fn due_after(class: u8, due: bool, next: u16) -> bool
+    ensures { λ r. ⌜ r ≡ dueAfter class due next ⌝ }
+{
+    if next == 0 {
+        return true;
+    }
+    if class == 0 { due } else { false }
 }
 
 // Which of the two rows is that of a class.

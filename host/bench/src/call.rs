@@ -1,5 +1,6 @@
 //! The calls that are measured, with their arguments.
 
+use crate::frames::Rds;
 use crate::side::{Buffers, Named, Side};
 
 pub enum Call {
@@ -12,6 +13,7 @@ pub enum Call {
     Write { fields: Vec<u64>, bytes: Vec<u8> },
     Separate { datagram: Vec<u8>, place: u64 },
     Join { bytes: Vec<u8>, lengths: Vec<u64> },
+    Rds(Rds),
 }
 
 impl Call {
@@ -27,6 +29,7 @@ impl Call {
             Call::Write { fields, bytes } => side.write(lent, fields, bytes),
             Call::Separate { datagram, place } => side.separate(lent, datagram, *place),
             Call::Join { bytes, lengths } => side.join(lent, bytes, lengths),
+            Call::Rds(call) => side.rds(lent, call),
         }
     }
 }

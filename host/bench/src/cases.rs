@@ -1,6 +1,7 @@
 //! The cases: a start, a call, and the number that it answers.
 
 use crate::call::Call;
+use crate::frames;
 use crate::pdus;
 use crate::side::{Buffers, Library, Named, Side, SIDES};
 use crate::start::{self, BEFORE, R_CLASS_1};
@@ -66,8 +67,18 @@ const ENGINE: [&str; 9] = [
     "timer that fires",
 ];
 
+/// Which cases: those of WTP, or those of the Reliable Data Service.
+#[derive(Clone, Copy, PartialEq, Eq)]
+pub enum Of {
+    Wtp,
+    Rds,
+}
+
 /// The names of all cases, as `--one` takes them.
-pub fn keys() -> Vec<String> {
+pub fn keys(of: Of) -> Vec<String> {
+    if of == Of::Rds {
+        return frames::CASES.map(str::to_string).to_vec();
+    }
     let codec = CODEC.iter().map(|name| name.to_string());
     let engine = ENGINE.iter().flat_map(|name| RECORDS.map(|records| key(name, Some(records))));
     codec.chain(engine).collect()
@@ -79,6 +90,10 @@ fn key(name: &str, records: Option<u8>) -> String {
 
 /// The case of this name. Only its own start is made, so that little is counted beside its calls.
 pub fn case(sought: &str) -> Result<Case, String> {
+    if let Some(name) = frames::CASES.into_iter().find(|name| *name == sought) {
+        let (start, call) = frames::case(name)?;
+        return Ok(Case { name, records: None, start, call, number: 0 });
+    }
     if let Some(name) = CODEC.into_iter().find(|name| *name == sought) {
         let (start, call) = codec(name)?;
         return Ok(Case { name, records: None, start, call, number: 0 });
@@ -91,9 +106,9 @@ pub fn case(sought: &str) -> Result<Case, String> {
     Ok(Case { name, records: Some(records), start, call, number })
 }
 
-/// All cases, the codec's first.
-pub fn all() -> Result<Vec<Case>, String> {
-    keys().iter().map(|key| case(key)).collect()
+/// All cases, of WTP the codec's first.
+pub fn all(of: Of) -> Result<Vec<Case>, String> {
+    keys(of).iter().map(|key| case(key)).collect()
 }
 
 fn codec(name: &str) -> Result<(Buffers, Call), String> {
@@ -168,7 +183,7 @@ mod tests {
 
     #[test]
     fn each_call_of_the_engine_does_what_its_name_says() {
-        for case in all().unwrap().iter().filter(|case| case.records.is_some()) {
+        for case in all(Of::Wtp).unwrap().iter().filter(|case| case.records.is_some()) {
             let last = u64::from(case.records.unwrap()) - 1;
             let expected = match case.name {
                 "request" => (true, 0, last, 0),
@@ -187,7 +202,7 @@ mod tests {
 
     #[test]
     fn both_sides_agree_in_every_case() {
-        for case in all().unwrap() {
+        for case in all(Of::Wtp).unwrap().into_iter().chain(all(Of::Rds).unwrap()) {
             case.agrees().unwrap();
         }
     }
@@ -201,6 +216,8 @@ mod tests {
 
     #[test]
     fn every_case_is_found_by_its_name() {
-        assert_eq!(all().unwrap().iter().map(Case::key).collect::<Vec<_>>(), keys());
+        for of in [Of::Wtp, Of::Rds] {
+            assert_eq!(all(of).unwrap().iter().map(Case::key).collect::<Vec<_>>(), keys(of));
+        }
     }
 }

@@ -4,6 +4,7 @@
 
 mod call;
 mod cases;
+mod frames;
 mod instructions;
 mod ns;
 mod pdus;
@@ -11,7 +12,7 @@ mod report;
 mod side;
 mod start;
 
-use cases::Case;
+use cases::{Case, Of};
 use instructions::Counts;
 use kit::args::{number, Given, Switches};
 use kit::program::{Program, FAILED};
@@ -22,10 +23,11 @@ use std::process::ExitCode;
 const HELP: &str = "\
 Measures what a call of the proved library costs beside the twin, and prints a table in Markdown.
 
-usage: bench [--quick] [--instructions FILE]
-       bench --list
+usage: bench [--rds] [--quick] [--instructions FILE]
+       bench [--rds] --list
        bench --one CASE SIDE TIMES
 
+  --rds                the cases of the Reliable Data Service instead of those of WTP
   --quick              fewer and shorter rounds (5 of 1 ms a side instead of 21 of 5 ms)
   --instructions FILE  counts for the table: a line a case with its name, the library's count and the twin's, divided by tabs
   --list               prints the names of the cases, a line each
@@ -38,7 +40,7 @@ host/bench/run.sh counts the instructions and calls this program with them.
 example: bench --one 'receive an Ack:48' library 100";
 
 fn main() -> ExitCode {
-    let switches = Switches { valued: &["--instructions"], flags: &["--quick", "--list", "--one"] };
+    let switches = Switches { valued: &["--instructions"], flags: &["--rds", "--quick", "--list", "--one"] };
     Program { name: "bench", help: HELP, switches }.run(|given| {
         if given.has("--one") {
             asked_for_one(given)
@@ -56,7 +58,8 @@ fn asked_for_one(given: &Given) -> Result<u8, String> {
 
 fn asked_for_all(given: &Given) -> Result<u8, String> {
     let ([], file) = (given.all_names([])?, given.text("--instructions")?);
-    Ok(status(if given.has("--list") { list() } else { table(given.has("--quick"), file) }))
+    let of = if given.has("--rds") { Of::Rds } else { Of::Wtp };
+    Ok(status(if given.has("--list") { list(of) } else { table(of, given.has("--quick"), file) }))
 }
 
 /// The exit status; what went wrong is said.
@@ -68,8 +71,8 @@ fn status(done: Result<(), String>) -> u8 {
     done.map_or_else(failed, |()| 0)
 }
 
-fn list() -> Result<(), String> {
-    say::out(&cases::keys().join("\n"));
+fn list(of: Of) -> Result<(), String> {
+    say::out(&cases::keys(of).join("\n"));
     Ok(())
 }
 
@@ -81,9 +84,9 @@ fn one(key: &str, side: &str, times: u64) -> Result<(), String> {
     (sum == right).then_some(()).ok_or_else(|| format!("'{key}' didn't answer the same each time"))
 }
 
-fn table(quick: bool, file: Option<&str>) -> Result<(), String> {
+fn table(of: Of, quick: bool, file: Option<&str>) -> Result<(), String> {
     let counts = file.map_or(Ok(Counts::new()), counts)?;
-    let cases = cases::all()?;
+    let cases = cases::all(of)?;
     cases.iter().try_for_each(Case::agrees)?;
     let plan = if quick { ns::QUICK } else { ns::FULL };
     say::out(report::HEAD);

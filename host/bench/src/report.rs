@@ -32,7 +32,7 @@ mod tests {
 
     #[test]
     fn a_row_has_as_many_columns_as_the_head() {
-        let case = &cases::all().unwrap()[0];
+        let case = &cases::all(cases::Of::Wtp).unwrap()[0];
         let ns = [Ns { median: 20.0, spread: 1.0 }, Ns { median: 10.0, spread: 3.0 }];
         let columns = HEAD.lines().next().unwrap().matches('|').count();
         let counted = row(case, Some(&[3000, 2000]), &ns);

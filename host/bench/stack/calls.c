@@ -5,7 +5,7 @@
 #include "calls.h"
 #include "painted.h"
 
-#define CALLS 16 /* at most */
+#define CALLS 28 /* at most */
 
 struct lent lent;
 int rows_shown;
@@ -16,16 +16,12 @@ static struct {
     size_t most;
 } reached[CALLS];
 
-static void set_ready(const char *name, void (*function)(void), const uint64_t *arguments, size_t size)
+void set_ready(const char *name, void (*function)(void), const uint64_t *arguments, size_t size)
 {
     ready = (struct call){ name, function, { 0 } };
     memcpy(ready.arguments, arguments, size);
 }
 
-#define WORDS(...) (const uint64_t[]){ __VA_ARGS__ }, sizeof(const uint64_t[]){ __VA_ARGS__ }
-#define READY(wtp_call, ...) set_ready(#wtp_call, (void (*)(void))wtp_call, WORDS(__VA_ARGS__))
-#define AT(pointer) (uint64_t)(uintptr_t)(pointer)
-#define PART_OF(octets) AT((octets)->at), (octets)->length
 #define LENT                                                                                   \
     AT(lent.table), wtp_table_bytes(lent.records), AT(lent.store), (lent.records * WTP_CELL), \
         AT(lent.out), sizeof lent.out, AT(lent.answer), lent.answer_len

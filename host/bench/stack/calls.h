@@ -5,6 +5,7 @@
 #include <stddef.h>
 #include <stdint.h>
 
+#include "rds.h"
 #include "wtp.h"
 
 #define RECORDS 48
@@ -20,7 +21,16 @@ extern struct lent {
     uint8_t table[16384], store[RECORDS * WTP_CELL], out[WTP_OUTPUT];
     uint64_t answer[WTP_ANSWER], words[WTP_FIELDS];
     size_t records, answer_len, words_len;
+    uint8_t book[8192], frame[RDS_OUTPUT]; /* of the Reliable Data Service, as the words that follow */
+    uint64_t told[RDS_FIELDS];
 } lent;
+
+/* Makes a call ready, by its name; its arguments are words. */
+void set_ready(const char *name, void (*function)(void), const uint64_t *arguments, size_t size);
+#define WORDS(...) (const uint64_t[]){ __VA_ARGS__ }, sizeof(const uint64_t[]){ __VA_ARGS__ }
+#define READY(call, ...) set_ready(#call, (void (*)(void))call, WORDS(__VA_ARGS__))
+#define AT(pointer) (uint64_t)(uintptr_t)(pointer)
+#define PART_OF(octets) AT((octets)->at), (octets)->length
 
 /* Each makes the call ready over what is lent; then `made` or a row makes it. */
 void table_bytes(uint64_t records);

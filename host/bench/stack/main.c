@@ -4,7 +4,7 @@
 
 #include "rows.h"
 
-/* What a call may take: request L5 of document 02, and what those below it took then. */
+/* What a call may take: request L5 of document 02, and what those below it took then. The calls of rds.h have no bound. */
 static const struct {
     const char *name;
     size_t bound;
@@ -42,5 +42,7 @@ int main(int count, char **arguments)
     user_rows();
     receive_rows();
     timer_rows();
+    if (rows_shown)
+        rds_rows();
     return checks && !all_keep();
 }

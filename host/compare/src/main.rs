@@ -1,4 +1,4 @@
-//! Runs random and hostile calls through the proved library and the twin, and compares all that they answer.
+//! Runs random and hostile calls through the proved libraries and the twins, and compares all that they answer.
 
 #![deny(unsafe_code)]
 
@@ -16,6 +16,7 @@ mod pair;
 mod pdus;
 #[cfg(test)]
 mod planted;
+mod rds;
 mod report;
 mod session;
 mod sides;
@@ -31,14 +32,16 @@ use std::process::ExitCode;
 use twin::Row;
 
 const HELP: &str = "\
-Runs random and hostile calls through the proved library and the twin, and compares all that they answer.
+Runs random and hostile calls through the proved libraries and the twins, and compares all that they answer.
 
-Usage: compare [--seed N] [--calls N] [--rows]
+Usage: compare [--seed N] [--calls N] [--rds-calls N] [--rows]
 
-  --seed N    the seed of the random calls; the same seed gives the same calls (default 1)
-  --calls N   how many calls to make (default 1000000)
-  --rows      only list the rows that must be reached, and make no call
-  --help      this text
+  --seed N       the seed of the random calls; the same seed gives the same calls (default 1)
+  --calls N      how many calls to make (default 1000000)
+  --rds-calls N  how many calls of the Reliable Data Service to make after them and after all frames of up to two octets
+                 (default 150000)
+  --rows         only list the rows that must be reached, and make no call
+  --help         this text
 
 Where a timer call fires a record, the same is done once more on copies by the calls deadline and fire, and must leave the same.
 Progress goes to the standard error. At the end each row and each outcome of the codec is listed with how often it was reached.
@@ -47,14 +50,21 @@ Exit status: 0 all calls the same and every row reached, 1 a difference or a row
 Example: compare --seed 7 --calls 5000000";
 
 fn main() -> ExitCode {
-    let switches = Switches { valued: &["--seed", "--calls"], flags: &["--rows"] };
+    let switches = Switches { valued: &["--seed", "--calls", "--rds-calls"], flags: &["--rows"] };
     Program { name: "compare", help: HELP, switches }.run(|given| {
         let [] = given.all_names([])?;
         let number = |switch, default| given.number(switch, default, 0..=u64::MAX);
         let (seed, calls) = (number("--seed", 1)?, number("--calls", 1_000_000)?);
-        let (told, status) = if given.has("--rows") { (rows(), 0) } else { compare(seed, calls) };
+        let rds_calls = number("--rds-calls", 150_000)?;
+        if given.has("--rows") {
+            say::out(&rows());
+            return Ok(0);
+        }
+        let (told, status) = compare(seed, calls);
         say::out(&told);
-        Ok(status)
+        let (told, good) = rds::compare(seed, rds_calls);
+        say::out(&told);
+        Ok(if good { status } else { FAILED })
     })
 }
 

@@ -8,7 +8,9 @@ use kit::{interrupt, say};
 use link::book::Book;
 use link::common::{self, Common};
 use link::desk::Desk;
+use link::modem::Modem;
 use link::post::{self, Post};
+use rds::Side;
 use std::process::ExitCode;
 
 const HELP: &str = "\
@@ -43,13 +45,14 @@ const VALUED: [&str; 2] = ["--listen", "--patience"];
 
 struct Gateway {
     post: Post,
-    desk: Desk,
+    modem: Modem<Desk>,
     quiet: bool,
 }
 
 fn main() -> ExitCode {
     let help = format!("{HELP}\n{}\n{HELP_END}", common::HELP);
-    let switches = Switches { valued: &[&common::VALUED[..], &VALUED].concat(), flags: &["--quiet"] };
+    let switches =
+        Switches { valued: &[&common::VALUED[..], &VALUED].concat(), flags: &[&common::FLAGS[..], &["--quiet"]].concat() };
     Program { name: "gateway", help: &help, switches }.run(|given| prepare(given).map(Gateway::run))
 }
 
@@ -60,28 +63,33 @@ fn prepare(given: &Given) -> Result<Gateway, String> {
     let [file] = given.all_names(["RESULTS.csv"])?;
     let book = Book::read(file)?;
     let samplers = book.len();
-    let desk = Desk::new(common.table()?, book, patience);
+    let modem = common.modem(Desk::new(common.table()?, book, patience), Side::Network);
     let post = Post::bind(address, common.line())?;
     interrupt::watch();
     say::out(&format!("gateway: listening on {} with {samplers} samplers", post.local()?));
-    Ok(Gateway { post, desk, quiet: given.has("--quiet") })
+    Ok(Gateway { post, modem, quiet: given.has("--quiet") })
 }
 
 impl Gateway {
     fn run(mut self) -> u8 {
         while !interrupt::stopped() {
-            let log = self.post.tick(&mut self.desk);
+            let log = self.post.tick(&mut self.modem);
             self.log(&log);
-            let log = self.post.listen(&mut self.desk, None);
+            let log = self.post.listen(&mut self.modem, None);
             self.log(&log);
         }
-        let step = self.desk.interrupt(self.post.now());
-        let log = self.post.carry_out(step);
-        self.log(&log);
+        let now = self.post.now();
+        // Like an Abort, a Release is sent once: a gateway that was stopped waits for nobody.
+        for step in [self.modem.with(|desk| desk.interrupt(now)), self.modem.close(now)] {
+            let log = self.post.carry_out(step);
+            self.log(&log);
+        }
         let log = self.post.empty_line();
         self.log(&log);
-        let tally = self.desk.tally().to_string().replace('\n', "\ngateway: ");
-        say::out(&format!("gateway: {tally}\ngateway: {}", self.post.summary()));
+        let tally = self.modem.end.tally().to_string().replace('\n', "\ngateway: ");
+        say::out(&format!("gateway: {tally}"));
+        self.modem.tally().into_iter().for_each(|frames| say::out(&format!("gateway: {frames}")));
+        say::out(&format!("gateway: {}", self.post.summary()));
         0
     }
 

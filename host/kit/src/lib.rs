@@ -1,5 +1,5 @@
 //! What the programs share: their arguments, what they say and how they end, small files, signals, random numbers that a seed
-//! fixes, figures for people, and where the fields of a table lie.
+//! fixes, figures for people, where the fields of a table lie, and a header beside its source.
 
 #![deny(unsafe_code)]
 
@@ -7,6 +7,7 @@ pub mod args;
 pub mod csv;
 mod draft;
 mod figures;
+pub mod header;
 #[allow(unsafe_code)]
 pub mod interrupt;
 pub mod layout;

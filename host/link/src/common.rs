@@ -1,15 +1,24 @@
 //! The switches that reader and gateway share.
 
 use crate::line::{Faults, Line};
+use crate::modem::Modem;
+use crate::step::End;
+use crate::wire::Repeats;
 use kit::args::Given;
 use kit::Random;
+use rds::Side;
 use wtp::{Settings, Table};
 
 pub const DEFAULT_ADDRESS: &str = "127.0.0.1:9201";
 pub const VALUED: [&str; 8] =
     ["--records", "--retries", "--interval", "--loss", "--duplicate", "--delay", "--seed", "--first-tid"];
 
-pub const HELP: &str = "  --records N          records of the table, 1 to 48: so many transactions at a time (8; a gateway 48)
+pub const FLAGS: [&str; 1] = ["--rds"];
+
+pub const HELP: &str =
+    "  --rds                each datagram in a UI frame of the Reliable Data Service (the reader is the UE), between ports that
+                       the reader reserves at the start and releases at the end; repeats as for PDUs; both ends or none (no)
+  --records N          records of the table, 1 to 48: so many transactions at a time (8; a gateway 48)
   --retries N          RCR_MAX, 0 to 8: how often a PDU is sent again (8)
   --interval MS        R and A, 1 to 60000: how long an answer is waited for; W is (retries + 1) of them (350)
   --loss PERCENT       so many of the datagrams sent are lost, 0 to 100 (0)
@@ -28,6 +37,7 @@ pub struct Common {
     faults: Faults,
     seed: u64,
     first_tid: u16,
+    rds: bool,
 }
 
 impl Common {
@@ -46,6 +56,7 @@ impl Common {
             faults,
             seed,
             first_tid: u16::try_from(first_tid).unwrap_or_default(),
+            rds: given.has("--rds"),
         })
     }
 
@@ -69,6 +80,15 @@ impl Common {
 
     pub fn line(&self) -> Line {
         Line::new(self.faults, self.seed)
+    }
+
+    /// The end behind its modem.
+    pub fn modem<E: End>(&self, end: E, side: Side) -> Modem<E> {
+        if self.rds {
+            Modem::rds(end, side, Repeats { after: self.interval, times: self.retries })
+        } else {
+            Modem::plain(end)
+        }
     }
 }
 

@@ -2,7 +2,8 @@
 //!
 //! [`round::Round`] is a reader and [`desk::Desk`] a gateway, both without socket and clock: they are given the time and
 //! the datagrams that came, give back a [`step::Step`], and say how long nothing is to be done. [`line::Line`] loses, doubles and
-//! delays what is sent, and [`post::Post`] is the UDP socket, which sleeps that long. What was received, and what it means, the proved library says.
+//! delays what is sent, and [`post::Post`] is the UDP socket, which sleeps that long. [`modem::Modem`] stands between an end and its line where
+//! datagrams go in frames. What was received, and what it means, the proved libraries say.
 
 #![deny(unsafe_code)]
 
@@ -11,6 +12,7 @@ pub mod common;
 pub mod desk;
 mod head;
 pub mod line;
+pub mod modem;
 mod open;
 pub mod outcome;
 pub mod payload;
@@ -20,3 +22,4 @@ pub mod reason;
 pub mod round;
 pub mod step;
 pub mod tally;
+pub mod wire;

@@ -31,6 +31,8 @@ pub enum Why {
     Interrupted,
     /// The library didn't take the request.
     NotAsked(Refused),
+    /// No port is reserved at the gateway (RDS), or none any more.
+    NoPort,
 }
 
 /// What made the library show something: a PDU that came, or this end's own timer.
@@ -123,6 +125,7 @@ impl fmt::Display for Why {
             Why::GaveUp(waited) => write!(f, "none came in {waited} ms (abort, user, this reader gave up)"),
             Why::Interrupted => write!(f, "interrupted before one came"),
             Why::NotAsked(refused) => write!(f, "not asked: {refused}"),
+            Why::NoPort => write!(f, "no port is reserved at the gateway"),
         }
     }
 }

@@ -80,13 +80,18 @@ impl Round {
 
     /// Aborts what is live, so that the gateway isn't left waiting; what has no outcome yet gets none any more.
     pub fn interrupt(&mut self, now: u64) -> Step {
+        self.stop(now, Why::Interrupted)
+    }
+
+    /// The same for another reason.
+    pub fn stop(&mut self, now: u64, why: Why) -> Step {
         let mut step = Step::default();
         for asked in std::mem::take(&mut self.asked) {
             self.abort(now, asked.tid, reason::STOPPED, &mut step);
         }
         self.next = self.samplers.len();
         for outcome in &mut self.outcomes {
-            outcome.get_or_insert(Outcome::NoAnswer(Why::Interrupted));
+            outcome.get_or_insert(Outcome::NoAnswer(why));
         }
         step
     }

@@ -11,10 +11,13 @@ use kit::args::{Given, Switches};
 use kit::program::{Program, WRONG_ARGUMENTS};
 use kit::{interrupt, say, Draft};
 use link::common::{self, Common};
+use link::modem::Modem;
 use link::outcome::{Outcome, Why};
 use link::post::{self, Post};
 use link::round::{Manner, Round};
+use link::step::Step;
 use progress::Progress;
+use rds::Side;
 use samplers::Scanned;
 use std::process::ExitCode;
 
@@ -26,7 +29,7 @@ transaction, several at a time, and prints a line for each, with one of four out
   VALUE         a measured value
   EMPTY RESULT  the laboratory answered, with no data
   ABORT         the transaction was aborted, by the provider or by a user, and why
-  NO ANSWER     none came: this reader's timer or patience ended it, or Ctrl-C, or it couldn't be asked
+  NO ANSWER     none came: this reader's timer or patience ended it, or Ctrl-C, or it couldn't be asked, also for want of a port
 Then comes a summary. Ctrl-C ends the waiting: what has no outcome yet is shown as NO ANSWER.
 
 Switches, with their defaults:
@@ -49,7 +52,7 @@ const VALUED: [&str; 4] = ["--gateway", "--from", "--patience", "--csv"];
 
 struct Reader {
     post: Post,
-    round: Round,
+    modem: Modem<Round>,
     samplers: Vec<Scanned>,
     progress: Progress,
     csv: Option<Draft>,
@@ -57,7 +60,8 @@ struct Reader {
 
 fn main() -> ExitCode {
     let help = format!("{HELP}\n{}\n{HELP_END}", common::HELP);
-    let switches = Switches { valued: &[&common::VALUED[..], &VALUED].concat(), flags: &["--no-user-ack"] };
+    let switches =
+        Switches { valued: &[&common::VALUED[..], &VALUED].concat(), flags: &[&common::FLAGS[..], &["--no-user-ack"]].concat() };
     Program { name: "reader", help: &help, switches }.run(|given| prepare(given).map(Reader::run))
 }
 
@@ -70,13 +74,13 @@ fn prepare(given: &Given) -> Result<Reader, String> {
     let samplers = samplers::read(file)?;
     let manner = Manner { user_ack: !given.has("--no-user-ack"), patience, linger };
     let asked = samplers.iter().map(|scanned| scanned.sampler.clone()).collect();
-    let round = Round::new(common.table()?, asked, manner);
+    let modem = common.modem(Round::new(common.table()?, asked, manner), Side::Ue);
     let post = match given.text("--from")? {
         Some(own) => Post::between(post::address(own)?, address, common.line())?,
         None => Post::towards(address, common.line())?,
     };
     let csv = given.text("--csv")?.map(|csv| draft(csv, file)).transpose()?;
-    Ok(Reader { post, round, samplers, progress: Progress::new(), csv })
+    Ok(Reader { post, modem, samplers, progress: Progress::new(), csv })
 }
 
 /// The outcomes must not take the place of the samplers.
@@ -91,33 +95,55 @@ fn draft(csv: &str, samplers: &str) -> Result<Draft, String> {
 impl Reader {
     fn run(mut self) -> u8 {
         interrupt::watch();
-        while !self.round.is_finished() && !interrupt::stopped() {
+        while !self.round().is_finished() && !self.modem.has_failed() && !interrupt::stopped() {
             self.turn();
         }
-        let step = self.round.interrupt(self.post.now());
-        let log = self.post.carry_out(step);
-        self.log(&log);
+        self.stop();
         let status = self.tell();
-        while !self.round.is_over(self.post.now()) && !interrupt::stopped() {
+        while !self.round().is_over(self.post.now()) && !self.modem.has_failed() && !interrupt::stopped() {
+            self.turn();
+        }
+        // After Ctrl-C the Release is sent once, and its answer isn't waited for.
+        let step = self.modem.close(self.post.now());
+        self.carry_out(step);
+        while !self.modem.is_closed() && !interrupt::stopped() {
             self.turn();
         }
         let log = self.post.empty_line();
         self.log(&log);
         self.progress.clear();
+        self.modem.tally().into_iter().for_each(|frames| say::err(&format!("reader: {frames}")));
         say::err(&format!("reader: {}", self.post.summary()));
         status
     }
 
+    fn round(&self) -> &Round {
+        &self.modem.end
+    }
+
+    /// What has no outcome gets none any more.
+    fn stop(&mut self) {
+        let why = if self.modem.has_failed() { Why::NoPort } else { Why::Interrupted };
+        let now = self.post.now();
+        let step = self.modem.with(|round| round.stop(now, why));
+        self.carry_out(step);
+    }
+
+    fn carry_out(&mut self, step: Step) {
+        let log = self.post.carry_out(step);
+        self.log(&log);
+    }
+
     fn turn(&mut self) {
-        let log = self.post.tick(&mut self.round);
+        let log = self.post.tick(&mut self.modem);
         self.log(&log);
         self.show_progress();
-        let log = self.post.listen(&mut self.round, self.progress.next());
+        let log = self.post.listen(&mut self.modem, self.progress.next());
         self.log(&log);
     }
 
     fn show_progress(&mut self) {
-        let (round, all) = (&self.round, self.samplers.len());
+        let (round, all) = (self.round(), self.samplers.len());
         let text = match round.waiting() {
             0 if round.is_finished() => "reader: repeats of the last results are still answered".into(),
             waiting => format!("reader: {} of {all} samplers finished, {waiting} wait for an answer", round.finished()),
@@ -135,7 +161,7 @@ impl Reader {
     /// Writes and prints the outcomes; the exit status says whether the laboratory answered each question.
     fn tell(&mut self) -> u8 {
         self.progress.clear();
-        let known = self.round.outcomes().iter();
+        let known = self.round().outcomes().iter();
         let outcomes: Vec<_> = known.map(|outcome| outcome.clone().unwrap_or(Outcome::NoAnswer(Why::Interrupted))).collect();
         let written = self.csv.take().map_or(Ok(()), |csv| csv.keep(&export::text(&self.samplers, &outcomes)));
         say::out(&report::table(&self.samplers, &outcomes));

@@ -31,7 +31,7 @@ impl Codec {
     pub fn told(&self, case: &Case) -> Result<String, String> {
         Ok(match case {
             Case::Read(pdu) => self.read_and_written(pdu),
-            Case::Write { words, octets } => self.written(&fields(words)?, octets),
+            Case::Write { words, octets } => self.written(&fields(words, FIELDS)?, octets),
             Case::Separate(datagram) => self.separated(datagram),
             Case::Join { lengths, octets } => output(|out, answer| (self.join)(octets, lengths, out, answer)),
         })
@@ -75,9 +75,9 @@ impl Codec {
     }
 }
 
-/// The words of a PDU: these, and else 0.
-fn fields(words: &[(usize, u64)]) -> Result<Vec<u64>, String> {
-    let mut fields = vec![0; FIELDS];
+/// So many words: these, and else 0.
+pub fn fields(words: &[(usize, u64)], count: usize) -> Result<Vec<u64>, String> {
+    let mut fields = vec![0; count];
     for (place, value) in words {
         *fields.get_mut(*place).ok_or_else(|| format!("there is no word {place}"))? = *value;
     }

@@ -61,7 +61,7 @@ pub fn command(line: &str) -> Result<Command, String> {
 }
 
 /// Words by their places.
-fn values(words: &mut Words) -> Result<Vec<(usize, u64)>, String> {
+pub fn values(words: &mut Words) -> Result<Vec<(usize, u64)>, String> {
     let mut read = Vec::new();
     while let Some(word) = words.before_octets() {
         let (place, value) = word.split_once('=').unwrap_or_default();

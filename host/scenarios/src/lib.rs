@@ -17,6 +17,7 @@ mod octets;
 #[cfg(test)]
 mod planted;
 mod player;
+pub mod rds;
 mod refused;
 mod words;
 

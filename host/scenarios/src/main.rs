@@ -5,13 +5,13 @@
 use kit::args::Switches;
 use kit::program::Program;
 use kit::say;
-use scenarios::play;
+use scenarios::{play, rds};
 use std::process::ExitCode;
 
 const HELP: &str = "\
 Plays scenarios and codec cases, a command a line, through the proved library, for two ends with a table each.
 
-Usage: scenarios FILE
+Usage: scenarios [--rds] FILE
 
   set N=V ..                          the settings of the next fresh table: the usual ones, but for these words
   lend TABLE STORE OUT ANSWER WORDS   how much is lent from now on; without numbers, what is right
@@ -34,6 +34,19 @@ Usage: scenarios FILE
   j N .. /OCTETS                      joins PDUs of these lengths
   # ..                                a title
 
+With --rds the commands are frames of the Reliable Data Service, and calls over one port book:
+  u FRAME, n FRAME                    reads and takes a frame of the UE or the network; what was read is then written
+  w SIDE N=V .. /OCTETS               writes the frame of these words, whose parts lie in the octets; SIDE is u or n
+  p PORTS SOURCE DESTINATION NUMBER /DATAGRAM   puts a datagram into a UI frame
+  f NETWORK FORMATS                   makes the book fresh
+  r OWN PEERS FORMAT /APPLICATION     reserves a port
+  l OWN                               releases it
+  a                                   the outstanding command again
+  d                                   gives it up
+  v FRAME                             a frame received
+  q PORT                              what is kept of a port, or of the outstanding command
+  # ..                                a title
+
 Octets are pairs of hex digits; 41*255, is an octet 255 times. Each line is printed with what it gives. In braces stand the
 place of the record whose octets an accepted call changed, and its state before and after: {0: RTidokWait1 -> RInvokeRespWait1}.
 
@@ -42,10 +55,11 @@ Exit status: 0 played, 2 wrong arguments, or a file or a line that can't be read
 Example: scenarios tests/scenarios/commands.txt | diff tests/scenarios/expected.txt -";
 
 fn main() -> ExitCode {
-    Program { name: "scenarios", help: HELP, switches: Switches::default() }.run(|given| {
+    Program { name: "scenarios", help: HELP, switches: Switches { valued: &[], flags: &["--rds"] } }.run(|given| {
         let [file] = given.all_names(["a file of scenarios"])?;
         let text = std::fs::read_to_string(file).map_err(|error| format!("{file} can't be read: {error}"))?;
         let mut told = String::new();
+        let play = if given.has("--rds") { rds::play } else { play };
         let played = play(&text, &mut told).map_err(|wrong| format!("{file}: {wrong}"));
         say::out(told.trim_end_matches('\n'));
         played.map(|()| 0)

@@ -1,24 +1,31 @@
-//! The scenarios and the codec cases of tests/, played through the library and compared line by line.
+//! The scenarios, the codec cases and the RDS cases of tests/, played through the libraries and compared line by line.
 
 mod compared;
 
 use compared::{compare, difference, file};
 
+type Play = fn(&str, &mut String) -> Result<(), String>;
+
 /// Plays the commands of a folder.
-fn played(folder: &str) {
+fn played(play: Play, folder: &str) {
     let mut told = String::new();
-    scenarios::play(&file(&format!("{folder}/commands.txt")), &mut told).unwrap();
+    play(&file(&format!("{folder}/commands.txt")), &mut told).unwrap();
     compare(&told, &format!("{folder}/expected.txt"));
 }
 
 #[test]
 fn the_library_plays_what_document_01_says() {
-    played("scenarios");
+    played(scenarios::play, "scenarios");
 }
 
 #[test]
 fn the_library_reads_and_writes_what_document_01_says() {
-    played("codec_cases");
+    played(scenarios::play, "codec_cases");
+}
+
+#[test]
+fn the_library_gives_what_the_worked_examples_of_rds_say() {
+    played(scenarios::rds::play, "rds_cases");
 }
 
 #[test]

@@ -7,6 +7,7 @@
 mod arguments;
 mod capture;
 mod datagram;
+mod frames;
 mod hex;
 mod input;
 mod lines;
@@ -16,7 +17,7 @@ mod walk;
 mod words;
 
 pub use hex::spaced;
-pub use lines::{Dump, Summary};
+pub use lines::{Dump, SentBy, Summary};
 pub use program::run;
 pub use walk::{fault, unseparated, Fault};
 pub use words::Length;

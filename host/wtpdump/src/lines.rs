@@ -1,9 +1,11 @@
 //! Lines for what was read, and the count of it.
 
 use crate::datagram::{Datagram, Entry};
+use crate::frames;
 use crate::hex::spaced;
 use crate::walk::unseparated;
 use crate::words::{self, Length};
+use rds::Side;
 use std::fmt;
 use wtp::ffi;
 
@@ -15,19 +17,35 @@ pub struct Summary {
     pub malformed: u64,
     pub unseparated: u64,
     pub passed: u64,
+    pub frames: u64,
+    pub malformed_frames: u64,
+}
+
+/// Who sent a frame: one side all of them, or the network those from a UDP port and the UE the others.
+#[derive(Debug, Clone, Copy, PartialEq, Eq)]
+pub enum SentBy {
+    Side(Side),
+    NetworkAt(u16),
 }
 
 /// Turns entries into lines, in order.
 #[derive(Debug, Clone)]
 pub struct Dump {
     length: Length,
+    /// None: datagrams come as they are.
+    frames: Option<SentBy>,
     first_time: Option<u64>,
     summary: Summary,
 }
 
 impl Dump {
     pub fn new(length: Length) -> Dump {
-        Dump { length, first_time: None, summary: Summary::default() }
+        Dump { length, frames: None, first_time: None, summary: Summary::default() }
+    }
+
+    /// Of datagrams in frames of the Reliable Data Service.
+    pub fn of_frames(length: Length, by: SentBy) -> Dump {
+        Dump { frames: Some(by), ..Dump::new(length) }
     }
 
     pub fn summary(&self) -> Summary {
@@ -38,7 +56,11 @@ impl Dump {
         match entry {
             Entry::Datagram(datagram) => {
                 let head = self.head(datagram);
-                self.datagram(&datagram.octets).into_iter().map(|line| format!("{head}: {line}")).collect()
+                let lines = match self.frames {
+                    Some(by) => self.frame(&datagram.octets, by.sender(datagram)),
+                    None => self.datagram(&datagram.octets),
+                };
+                lines.into_iter().map(|line| format!("{head}: {line}")).collect()
             }
             Entry::Passed { number, why } => {
                 self.summary.passed = self.summary.passed.saturating_add(1);
@@ -65,6 +87,23 @@ impl Dump {
         }
     }
 
+    /// The lines of one frame, and of the PDUs in it.
+    fn frame(&mut self, octets: &[u8], from: Side) -> Vec<String> {
+        self.summary.frames = self.summary.frames.saturating_add(1);
+        let head = format!("frame of {} octets from {}", octets.len(), frames::side(from));
+        match frames::frame(octets, from, self.length) {
+            Ok((words, datagram)) => {
+                let inside = datagram.map_or_else(Vec::new, |datagram| self.datagram(datagram));
+                let inside = inside.into_iter().map(|line| format!("in it: {line}"));
+                std::iter::once(format!("{head}: {words}")).chain(inside).collect()
+            }
+            Err(malformed) => {
+                self.summary.malformed_frames = self.summary.malformed_frames.saturating_add(1);
+                vec![format!("{head}: {malformed}")]
+            }
+        }
+    }
+
     fn pdu(&mut self, datagram: &[u8], (start, length): (usize, usize), which: Option<String>) -> String {
         let octets = datagram.get(start..start.saturating_add(length)).unwrap_or_default();
         let last = start.saturating_add(length).saturating_sub(1);
@@ -86,6 +125,16 @@ impl Dump {
             head.push_str(&format!(" {from} > {to}"));
         }
         head
+    }
+}
+
+impl SentBy {
+    fn sender(self, datagram: &Datagram) -> Side {
+        match self {
+            SentBy::Side(side) => side,
+            SentBy::NetworkAt(port) if datagram.ends.map_or(false, |(from, _)| from.port() == port) => Side::Network,
+            SentBy::NetworkAt(_) => Side::Ue,
+        }
     }
 }
 
@@ -123,7 +172,10 @@ fn seconds(time: u64, first: u64) -> String {
 
 impl fmt::Display for Summary {
     fn fmt(&self, f: &mut fmt::Formatter<'_>) -> fmt::Result {
-        let Summary { datagrams, pdus, malformed, unseparated, passed } = self;
+        let Summary { datagrams, pdus, malformed, unseparated, passed, frames, malformed_frames } = self;
+        if *frames > 0 {
+            write!(f, "frames: {frames}, malformed: {malformed_frames}; ")?;
+        }
         write!(f, "datagrams: {datagrams}, PDUs: {pdus}, malformed: {malformed}")?;
         if *unseparated > 0 {
             write!(f, ", can't be separated: {unseparated}")?;

@@ -69,7 +69,7 @@ fn to_the_end(input: &mut dyn Read) -> io::Result<Vec<u8>> {
 }
 
 fn dump(entries: &[Entry], asked: &Asked, out: &mut dyn Write) -> io::Result<Summary> {
-    let mut dump = Dump::new(asked.length);
+    let mut dump = asked.frames.map_or_else(|| Dump::new(asked.length), |by| Dump::of_frames(asked.length, by));
     for line in entries.iter().flat_map(|entry| dump.lines(entry)) {
         writeln!(out, "{line}")?;
     }

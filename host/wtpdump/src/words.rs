@@ -109,7 +109,7 @@ fn part(pdu: &[u8], start: u64, length: u64) -> &[u8] {
 }
 
 /// Octets as a count, digits and text.
-fn data(octets: &[u8], length: Length) -> String {
+pub fn data(octets: &[u8], length: Length) -> String {
     let count = match octets.len() {
         0 => return "0 octets".to_string(),
         1 => "1 octet".to_string(),
@@ -120,7 +120,8 @@ fn data(octets: &[u8], length: Length) -> String {
     format!("{count}: {}{dots} \"{text}\"{dots}", spaced(shown))
 }
 
-fn shortened(octets: &[u8], length: Length) -> (&[u8], &'static str) {
+/// The octets that are shown, and dots where there are more.
+pub fn shortened(octets: &[u8], length: Length) -> (&[u8], &'static str) {
     match octets.get(..SHORT) {
         Some(shown) if length == Length::Short && octets.len() > SHORT => (shown, " ..."),
         _ => (octets, ""),

@@ -8,5 +8,5 @@ pub sender-of-spec : {M : Type 1} → statement M
 unfolding senderOf
 sender-of-spec =
     tie.close (tie.spec
-    (λ c κs. search needs) (λ c. search needs) (λ c. search needs) (λ c. search needs) (λ c. search needs)
-    (λ c. simp (c .before .before .message-of .ensures)))
+    (λ c κs. search needs) (λ c κs. search needs) (λ c. search needs) (λ c. search needs) (λ c. search needs)
+    (λ c. simp (c .before .size .ensures .0, c .before .before .message-of .ensures)))

@@ -1,16 +1,26 @@
--- `table_header_ok::spare_ok` meets its contract: four octets, then two words. Assumes nothing.
+-- `table_header_ok::spare_ok` meets its contract: spare octets, the flag of TIDnew, spare octets. Assumes nothing.
+use mathlib.Core.Path.{refl}
 use denote.Ref.{now}
-use Rattle.base_layout.specs.Layout.{headerSpareAt}
-use Rattle.table_ranges.proofs.InTurn.{held, broke}
-use Rattle.table_ranges.proofs.Zeros.{first-broke, first-held}
+use borrow.Author.Tests.{le-leb, lt-leb}
+use Rattle.table_ranges.proofs.InTurn.{Passed, none-passed, passes, fails, decides, held, broke}
+use Rattle.table_header_ok.specs.Header.{spareTests, spareOk}
 use borrow.Author.Needs.{needs}
 use Rattle.table_header_ok.proofs.spare_ok.Statement.{statement}
 use Rattle.table_header_ok.proofs.spare_ok.Tie as tie
 
+past1 : (c : tie.Else1) → Passed 1 (spareTests (now (c .before .before .before .args .t)))
+past1 c = passes 0 _ (none-passed _) (held (c .before .zero-octets .ensures) (c .if1 .left))
+
+past2 : (c : tie.Else2) → Passed 2 (spareTests (now (c .before .before .before .before .before .args .t)))
+past2 c = passes 1 _ (past1 (c .before .before)) (le-leb _ _ (c .if2 .left))
+
 pub spare-ok-spec : {M : Type 1} → statement M
+unfolding spareOk
 spare-ok-spec =
     tie.close (tie.spec
     (λ c κs. search needs)
-    (λ c. first-broke (now (c .before .before .before .args .t)) headerSpareAt 4 16 (broke (c .before .zero4 .ensures) (c .if1 .taken)))
+    (λ c. fails 0 (spareTests (now (c .before .before .before .args .t))) (none-passed _) (broke (c .before .zero-octets .ensures) (c .if1 .taken)))
+    (λ c. search needs)
+    (λ c. fails 1 _ (past1 (c .before .before)) (lt-leb _ _ (c .if2 .taken)))
     (λ c κs. search needs)
-    (λ c. first-held (now (c .before .before .before .before .args .t)) headerSpareAt 4 16 (held (c .before .before .zero4 .ensures) (c .before .if1 .left)) (c .zero-words .ensures)))
+    (λ c. decides 2 _ _ (past2 (c .before)) refl (c .zero-octets2 .ensures)))

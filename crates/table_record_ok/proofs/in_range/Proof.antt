@@ -25,6 +25,9 @@ past5 c = passes 4 _ (past4 (c .before .before)) (le-leb _ _ (c .if5 .left))
 past6 : (c : tie.Else6) → Passed 6 (rangeTests (c .before .before .before .before .before .before .before .before .before .before .before .before .before .before .args .s) (c .before .before .before .before .before .before .before .before .before .before .before .before .before .before .args .r))
 past6 c = passes 5 _ (past5 (c .before .before)) (le-leb _ _ (c .if6 .left))
 
+past7 : (c : tie.Else7) → Passed 7 (rangeTests (c .before .before .before .before .before .before .before .before .before .before .before .before .before .before .before .before .args .s) (c .before .before .before .before .before .before .before .before .before .before .before .before .before .before .before .before .args .r))
+past7 c = passes 6 _ (past6 (c .before .before)) (held (c .before .tidnew-ok .ensures) (c .if7 .left))
+
 pub in-range-spec : {M : Type 1} → statement M
 unfolding inRange
 in-range-spec =
@@ -36,4 +39,6 @@ in-range-spec =
     (λ c. fails 3 _ (past3 (c .before .before)) (lt-leb _ _ (c .if4 .taken)))
     (λ c. fails 4 _ (past4 (c .before .before)) (lt-leb _ _ (c .if5 .taken)))
     (λ c. fails 5 _ (past5 (c .before .before)) (lt-leb _ _ (c .if6 .taken)))
-    (λ c. decides 6 _ _ (past6 (c .before)) refl refl))
+    (λ c κs. search needs)
+    (λ c. fails 6 _ (past6 (c .before .before)) (broke (c .before .tidnew-ok .ensures) (c .if7 .taken)))
+    (λ c. decides 7 _ _ (past7 (c .before)) refl refl))

@@ -1,6 +1,7 @@
 //! The proved library, through its wrapper's plain functions.
 
 use super::{Buffers, Library, Named, Side, PEER};
+use crate::frames::{Rds, OWN, PEERS};
 use wtp::ffi::{self, Lent, Record};
 
 fn lend(lent: &mut Buffers) -> Lent<'_> {
@@ -46,5 +47,22 @@ impl Side for Library {
 
     fn join(&self, lent: &mut Buffers, bytes: &[u8], lengths: &[u64]) -> u64 {
         ffi::join(bytes, lengths, &mut lent.out, &mut lent.answer)
+    }
+
+    fn rds(&self, lent: &mut Buffers, call: &Rds) -> u64 {
+        let Buffers { table: book, out, answer, words, .. } = lent;
+        match call {
+            Rds::Read { frame } => rds::ffi::read(frame, 0, words),
+            Rds::Take { frame } => rds::ffi::take(frame, 0, words),
+            Rds::Put { datagram } => {
+                let sent = rds::ffi::Sent { ports: 1, source: OWN, destination: PEERS, number: 2 };
+                rds::ffi::put(datagram, sent, out, answer)
+            }
+            Rds::Write { fields, bytes } => rds::ffi::write(fields, bytes, 0, out, answer),
+            Rds::Fresh => rds::ffi::ports_fresh(book, 0, 0),
+            Rds::Reserve { application } => rds::ffi::reserve(rds::ffi::Lent { book, out, answer }, OWN, PEERS, 0, application),
+            Rds::Receive { frame } => rds::ffi::receive(rds::ffi::Lent { book, out, answer }, frame),
+            Rds::Port => rds::ffi::port(book, OWN, out, answer),
+        }
     }
 }

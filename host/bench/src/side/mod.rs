@@ -1,12 +1,15 @@
 //! The sides that are measured: the proved library, the twin, and an empty call that is taken off both.
 
+use crate::frames::Rds;
+
 mod library;
 mod twin;
 
 /// The number that the other end has in every case.
 pub const PEER: u64 = 7;
 
-/// What a call is lent to write to. The codec's calls write `words`: the fields of a PDU or a part of a datagram.
+/// What a call is lent to write to. The codec's calls write `words`: the fields of a PDU or a part of a datagram. A port book is
+/// lent as the table.
 #[derive(Clone, PartialEq, Eq)]
 pub struct Buffers {
     pub table: Vec<u8>,
@@ -34,6 +37,7 @@ pub trait Side {
     fn write(&self, _lent: &mut Buffers, _fields: &[u64], _bytes: &[u8]) -> u64 { 0 }
     fn separate(&self, _lent: &mut Buffers, _datagram: &[u8], _place: u64) -> u64 { 0 }
     fn join(&self, _lent: &mut Buffers, _bytes: &[u8], _lengths: &[u64]) -> u64 { 0 }
+    fn rds(&self, _lent: &mut Buffers, _call: &Rds) -> u64 { 0 }
 }
 
 pub struct Library;

@@ -1,6 +1,7 @@
 //! The twin: the same calls in plain Rust.
 
 use super::{Buffers, Named, Side, Twin, PEER};
+use crate::frames::{Rds, OWN, PEERS};
 use twin::Lent;
 
 fn lend(lent: &mut Buffers) -> Lent<'_> {
@@ -42,5 +43,23 @@ impl Side for Twin {
 
     fn join(&self, lent: &mut Buffers, bytes: &[u8], lengths: &[u64]) -> u64 {
         twin::join(bytes, lengths, &mut lent.out, &mut lent.answer)
+    }
+
+    fn rds(&self, lent: &mut Buffers, call: &Rds) -> u64 {
+        let Buffers { table: book, out, answer, words, .. } = lent;
+        let said = match call {
+            Rds::Read { frame } => rds_twin::read(frame, 0, words),
+            Rds::Take { frame } => rds_twin::take(frame, 0, words),
+            Rds::Put { datagram } => {
+                let sent = rds_twin::Sent { ports: 1, source: OWN, destination: PEERS, number: 2 };
+                rds_twin::put(datagram, sent, out, answer)
+            }
+            Rds::Write { fields, bytes } => rds_twin::write(fields, bytes, 0, out, answer),
+            Rds::Fresh => rds_twin::ports_fresh(book, 0, 0),
+            Rds::Reserve { application } => rds_twin::reserve(rds_twin::Lent { book, out, answer }, OWN, PEERS, 0, application),
+            Rds::Receive { frame } => rds_twin::receive(rds_twin::Lent { book, out, answer }, frame),
+            Rds::Port => rds_twin::port(book, OWN, out, answer),
+        };
+        said.number
     }
 }

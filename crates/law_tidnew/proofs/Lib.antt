@@ -1,0 +1,4 @@
+pub mod Wire
+pub mod Due
+pub mod First
+pub mod Dropped

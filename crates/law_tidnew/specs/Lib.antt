@@ -1,0 +1,2 @@
+pub mod TidNew
+pub mod Dropped
