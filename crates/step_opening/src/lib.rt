@@ -11,7 +11,13 @@ use step_plan::Holder;
 use table_finding::Found;
 
 // The changes of an opening for this holder, whose peer has this TID cached.
-pub fn opening_changes(turn: Turn, h: Holder, cached: u16, gen_tid: GenTidChange, time: u64) -> Changes
+pub fn opening_changes(
+    turn: Turn,
+    h: Holder,
+    cached: u16,
+    gen_tid: GenTidChange,
+    time: u64,
+) -> Changes
     requires { ⌜ h .tid ≤ tidBound ⌝ }
     ensures { λ r. ⌜ r ≡ openingChanges turn h cached «gen_tid» time ⌝ }
 {
