@@ -126,7 +126,8 @@ uint64_t wtp_fresh(uint8_t *table, size_t table_len, const uint64_t *settings, s
 
 /* Requests a transaction of class `cls` with `peer`: sends an Invoke with `data`, with the U/P flag where `user_ack` isn't 0, under
  * the next TID, which the answer gives. Class 0 ends with it; class 1 and 2 open an initiator record, which goes on until a
- * confirmation (class 1), a result that was answered (class 2) or an abort.
+ * confirmation (class 1), a result that was answered (class 2) or an abort. The first Invoke of class 1 or 2 from a fresh table,
+ * and the first after the TIDs have come back to 0, carries TIDnew: the peer then forgets the TID that it has cached.
  * 1, 2; 3: peer; 4: more than 1,024 octets of data; 5: class over 2; 6: the next TID is in use; 7: no record is free. */
 uint64_t wtp_request(uint8_t *table, size_t table_len, uint8_t *store, size_t store_len, uint8_t *out, size_t out_len,
                      uint64_t *answer, size_t answer_len, uint64_t now, uint64_t peer, uint64_t cls, uint64_t user_ack,
@@ -152,7 +153,8 @@ uint64_t wtp_abort(uint8_t *table, size_t table_len, uint8_t *store, size_t stor
                    uint8_t reason);
 
 /* Takes one PDU that came from `peer`; a datagram is separated first (wtp_separate). A malformed PDU is an event and no refusal,
- * and what names no record and opens none is accepted and ignored. What is sent goes to `peer`.
+ * and what names no record and opens none is accepted and ignored. An Invoke with TIDnew that opens a record drops the TID that is
+ * cached for `peer`, and is verified. What is sent goes to `peer`.
  * 1, 2; 3: peer; 11: length outside 1 to 1,500. */
 uint64_t wtp_receive(uint8_t *table, size_t table_len, uint8_t *store, size_t store_len, uint8_t *out, size_t out_len,
                      uint64_t *answer, size_t answer_len, uint64_t now, uint64_t peer, const uint8_t *pdu, size_t pdu_len);

@@ -1,5 +1,5 @@
 #!/usr/bin/env python3
-"""Writes what the bench cases without a star must give: crates/bench_cases/stdout.
+"""Writes what the bench cases without a star must give: crates/case_bench/stdout.
 
 What they must give is what the engine of tests/engine.py gives, an independent reading of document 01; beside each case stands what
 document 01 says of it.

@@ -1,7 +1,8 @@
 #!/usr/bin/env python3
 """Writes how many damaged tables must be refused: tests/damage/expected.txt.
 
-An independent reading of document 01's "well formed" over the layout of docs/TABLE.md; nothing here is taken from the definitions or the code.
+An independent reading of document 01's "well formed" (document 02 as far as it has landed: L2) over the layout of docs/TABLE.md; nothing
+here is taken from the definitions or the code.
 usage: tests/damage.py [--check]
 """
 import functools
@@ -11,7 +12,7 @@ import sys
 
 HEADER, RECORD, COUNT = 624, 176, 2
 # where the fields of docs/TABLE.md start, RCR_MAX with AEC_MAX, A with W, R with R, RCR with AEC and flags with the exit length taken together
-FIELDS = [0, 8, 10, 12, 20, 92, 112] + [HEADER + RECORD * i + at for i in range(COUNT) for at in (0, 1, 2, 4, 6, 8, 16, 20, 48)] + [HEADER + RECORD * COUNT]
+FIELDS = [0, 8, 10, 12, 20, 92, 97, 98, 112] + [HEADER + RECORD * i + at for i in range(COUNT) for at in (0, 1, 2, 4, 6, 8, 16, 20, 48)] + [HEADER + RECORD * COUNT]
 
 
 def number(octets):
@@ -23,14 +24,14 @@ def number(octets):
 def header_ok(t):
     intervals, caches = struct.unpack("<20I", t[12:92]), struct.unpack("<256H", t[112:HEADER])
     return (number(t[0:8]) <= 10 ** 12 and number(t[8:10]) <= 32767 and t[10] <= 8 and t[11] <= 8
-            and min(intervals) >= 1 and max(intervals) <= 86400000 and not any(t[92:112]) and max(caches) <= 32768)
+            and min(intervals) >= 1 and max(intervals) <= 86400000 and not any(t[92:97]) and t[97] <= 1 and not any(t[98:112]) and max(caches) <= 32768)
 
 
 @functools.lru_cache
 def record_ok(r, rcr_max, aec_max):
     if r[0] == 0:
         return not any(r)
-    return (r[0] <= 11 and number(r[2:4]) <= 32767 and r[4] <= rcr_max and r[5] <= aec_max and r[6] <= 15 and r[7] <= 128
+    return (r[0] <= 11 and number(r[2:4]) <= 32767 and r[4] <= rcr_max and r[5] <= aec_max and r[6] <= (31 if r[0] <= 4 else 15) and r[7] <= 128
             and number(r[8:16]) <= 10 ** 12 + 86400000 and number(r[16:20]) <= 1024 and not any(r[20:48]))
 
 
@@ -47,7 +48,7 @@ def well_formed(t):
 def fresh():
     t = bytearray(HEADER + RECORD * COUNT)
     t[8:10] = (7).to_bytes(2, "little")
-    t[10], t[11] = 4, 5
+    t[10], t[11], t[97] = 4, 5, 1
     for k, value in enumerate([1000, 2000] + [3000] * 9 + [4000] * 9):
         t[12 + 4 * k:16 + 4 * k] = value.to_bytes(4, "little")
     return t
@@ -69,6 +70,8 @@ table = fresh()
 text = ["a fresh table of two records"] + damaged(table)
 table[HEADER], table[HEADER + RECORD], table[HEADER + RECORD + 1] = 2, 2, 1
 text += ["the same with both records live"] + damaged(table)
+table[HEADER + 6], table[HEADER + RECORD] = 16, 8
+text += ["an initiator whose Invoke carries TIDnew, and a responder"] + damaged(table)
 text = "\n".join(text) + "\n"
 path = pathlib.Path(__file__).resolve().parent / "damage" / "expected.txt"
 if "--check" in sys.argv[1:]:

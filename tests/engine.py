@@ -1,5 +1,5 @@
-"""An engine read from document 01 ("Numbers given back", "TIDs", "Events"), from document 02 as far as it has landed (L3), from the C
-interface's words and from docs/TABLE.md, and not from the definitions: a second opinion on what each call gives. It notes in `reached`
+"""An engine read from document 01 ("Numbers given back", "TIDs", "Events"), from document 02 as far as it has landed (L3, L2), from the
+C interface's words and from docs/TABLE.md, and not from the definitions: a second opinion on what each call gives. It notes in `reached`
 each row, test and refusal that a call meets.
 """
 
@@ -7,6 +7,7 @@ BOUND = 10 ** 12
 LONGEST = 86400000
 HEADER, RECORD, CELL = 624, 176, 1024
 SPARE, EXIT = 20, 48
+TIDNEW_DUE, CACHE = 97, 112
 INITIATOR, RESPONDER = 0, 1
 ROLES = ["initiator", "responder"]
 STATES = ["Free", "IResultWait1", "IResultWait2", "IResultRespWait", "IWaitTimeout", "RTidokWait1", "RTidokWait2",
@@ -26,11 +27,11 @@ class Record:
 
     def __init__(self, w):
         self.state, self.peer, self.tid, self.rcr, self.aec = STATES[w[0]], w[1], number(w[2:4]), w[4], w[5]
-        self.up, self.held, self.tidok_sent, self.hold_on_sent = (w[6] >> k & 1 for k in range(4))
+        self.up, self.held, self.tidok_sent, self.hold_on_sent, self.tidnew = (w[6] >> k & 1 for k in range(5))
         self.deadline, self.length, self.exit, self.past_exit = number(w[8:16]), number(w[16:20]), bytes(w[EXIT:EXIT + w[7]]), bytes(w[EXIT:RECORD])
 
     def octets(self):
-        marks = self.up + 2 * self.held + 4 * self.tidok_sent + 8 * self.hold_on_sent
+        marks = self.up + 2 * self.held + 4 * self.tidok_sent + 8 * self.hold_on_sent + 16 * self.tidnew
         w = bytes([STATES.index(self.state), self.peer]) + self.tid.to_bytes(2, "little") + bytes([self.rcr, self.aec, marks, len(self.exit)])
         w += self.deadline.to_bytes(8, "little") + self.length.to_bytes(4, "little") + bytes(EXIT - SPARE)
         return w + self.exit + self.past_exit[len(self.exit):]
@@ -55,12 +56,14 @@ class Table:
         self.clock, self.gen, self.rcr_max, self.aec_max = number(t[0:8]), number(t[8:10]), t[10], t[11]
         x = [number(t[at:at + 4]) for at in range(12, 92, 4)]
         self.a, self.w, self.rows = x[0], x[1], [x[2:11], x[11:20]]
-        self.last = [number(t[at:at + 2]) - 1 for at in range(112, HEADER, 2)]
+        self.tidnew_due = t[TIDNEW_DUE]
+        self.last = [number(t[at:at + 2]) - 1 for at in range(CACHE, HEADER, 2)]
         self.records = [Record(t[at:at + RECORD]) for at in range(HEADER, len(t), RECORD)]
 
     def octets(self):
         t = self.clock.to_bytes(8, "little") + self.gen.to_bytes(2, "little") + bytes([self.rcr_max, self.aec_max])
-        t += b"".join(x.to_bytes(4, "little") for x in [self.a, self.w] + self.rows[0] + self.rows[1]) + bytes(20)
+        t += b"".join(x.to_bytes(4, "little") for x in [self.a, self.w] + self.rows[0] + self.rows[1])
+        t += bytes(TIDNEW_DUE - len(t)) + bytes([self.tidnew_due]) + bytes(CACHE - TIDNEW_DUE - 1)
         t += b"".join((x + 1).to_bytes(2, "little") for x in self.last)
         return t + b"".join(r.octets() for r in self.records)
 
@@ -73,11 +76,11 @@ class Table:
 
 def well_formed(t):
     """01: all fields in range, free records zero, no two live records with the same role, peer and TID."""
-    if number(t[0:8]) > BOUND or number(t[8:10]) > 32767 or t[10] > 8 or t[11] > 8 or any(t[92:112]):
+    if number(t[0:8]) > BOUND or number(t[8:10]) > 32767 or t[10] > 8 or t[11] > 8 or t[TIDNEW_DUE] > 1 or any(t[92:TIDNEW_DUE]) or any(t[TIDNEW_DUE + 1:CACHE]):
         return False
     if not all(1 <= number(t[at:at + 4]) <= LONGEST for at in range(12, 92, 4)):
         return False
-    if any(number(t[at:at + 2]) > 32768 for at in range(112, HEADER, 2)):
+    if any(number(t[at:at + 2]) > 32768 for at in range(CACHE, HEADER, 2)):
         return False
     names = []
     for at in range(HEADER, len(t), RECORD):
@@ -86,7 +89,7 @@ def well_formed(t):
             if any(w):
                 return False
             continue
-        if w[0] > 11 or number(w[2:4]) > 32767 or w[4] > t[10] or w[5] > t[11] or w[6] > 15 or w[7] > 128 or any(w[SPARE:EXIT]):
+        if w[0] > 11 or number(w[2:4]) > 32767 or w[4] > t[10] or w[5] > t[11] or w[6] > (31 if w[0] <= 4 else 15) or w[7] > 128 or any(w[SPARE:EXIT]):
             return False
         if number(w[8:16]) > BOUND + LONGEST or number(w[16:20]) > CELL:
             return False
@@ -154,8 +157,8 @@ def last_ack(r, rid):
     return pdu((0x98 if r.exit else 0x18) + rid, r.role(), r.tid, exit_item(r.exit))
 
 
-def invoke_pdu(tid, cls, up, rid, octets):
-    return pdu(0x0E + rid, INITIATOR, tid, bytes([16 * up + cls]) + octets)
+def invoke_pdu(tid, cls, up, tidnew, rid, octets):
+    return pdu(0x0E + rid, INITIATOR, tid, bytes([32 * tidnew + 16 * up + cls]) + octets)
 
 
 # ---- one accepted call
@@ -235,7 +238,8 @@ def i_result_wait(c, r, event, p, given):
             return c.give_up(r) if event == "timer" else None
         c.meet(r.state, event, "Resent" if event == "timer" else "TidokSent", "RCR < RCR_MAX, TIDok " + ("sent" if r.tidok_sent else "not sent"))
         if event == "timer" and not r.tidok_sent:
-            c.sent = invoke_pdu(r.tid, r.cls(), r.up, 1, c.message(r))
+            reached.add(("Invoke again", "TIDnew" if r.tidnew else "no TIDnew", "due" if c.t.tidnew_due else "not due"))
+            c.sent = invoke_pdu(r.tid, r.cls(), r.up, r.tidnew, 1, c.message(r))
         else:
             c.sent = pdu(0x1C + r.tidok_sent, INITIATOR, r.tid)
             r.tidok_sent = 1
@@ -424,12 +428,12 @@ class Nowhere:
 
 def first_invoke(c, peer, p):
     """An Invoke without a live record, well formed, top bit 0: the tests in order, the last decides."""
-    cls, up = p.fourth & 3, p.fourth >> 4 & 1
+    cls, up, tidnew = p.fourth & 3, p.fourth >> 4 & 1, p.fourth >> 5 & 1
     start, length = p.user
 
     def met(row, test):
         c.meet("Free", p.kind(), row)
-        reached.add(("first Invoke, class %d" % cls, test, ""))
+        reached.add(("first Invoke, class %d" % cls, test, "TIDnew" if tidnew else ""))
 
     for reason, test, row, fails in ((6, "a", "WrongVersion", p.fourth >> 6), (4, "b", "Unsupported", not p.ttr), (7, "c", "TooLong", length > 1024)):
         if fails:
@@ -446,13 +450,16 @@ def first_invoke(c, peer, p):
     last = c.t.last[peer]
     valid = last >= 0 and 1 <= (p.tid - last) % 32768 <= 16383
     r.peer, r.tid, r.up = peer, p.tid, up
-    if valid:
+    if valid and not tidnew:
         met("Valid%d" % cls, "f")
         r.state, c.t.last[peer] = "RInvokeRespWait%d" % cls, p.tid
         c.show("invoke", r, (0, start, length), cls, up)
         c.start(r, c.t.a)
     else:
-        met("ToVerify%d" % cls, "g, none cached" if last < 0 else "g, d = 0" if last == p.tid else "g, d over 16,383")
+        # 02, L2: with TIDnew whatever the distance, and the peer's cached TID is dropped
+        row = "Restarted%d" if tidnew else "ToVerify%d"
+        met(row % cls, "g, none cached" if last < 0 else "g, d = 0" if last == p.tid else "g, d 1 to 16,383" if valid else "g, d over 16,383")
+        c.t.last[peer] = -1 if tidnew else last
         r.state = "RTidokWait%d" % cls
         c.keep(r, c.lent[start:start + length])
         c.sent = pdu(0x1C, RESPONDER, p.tid)
@@ -561,15 +568,19 @@ def request(end, time, peer, cls, up, octets):
                 (7, cls > 0 and t.lowest_free() is None)]
 
     def event(c):
-        c.tid = c.t.gen
+        c.tid, tidnew = c.t.gen, c.t.tidnew_due if cls else 0
         c.t.gen = (c.t.gen + 1) % 32768
         c.meet("Free", "request", "Requested%d" % cls)
-        c.sent = invoke_pdu(c.tid, cls, up, 0, octets)
+        reached.add(("request, class %d" % cls, "due" if c.t.tidnew_due else "not due", "GenTID to 0" if c.t.gen == 0 else ""))
+        c.sent = invoke_pdu(c.tid, cls, up, tidnew, 0, octets)
         if cls:
             r = c.t.lowest_free()
-            r.state, r.peer, r.tid, r.up = "IResultWait%d" % cls, peer, c.tid, up
+            r.state, r.peer, r.tid, r.up, r.tidnew = "IResultWait%d" % cls, peer, c.tid, up, tidnew
             c.keep(r, octets)
             c.start(r, c.t.rows[cls - 1][0])
+            c.t.tidnew_due = 0
+        # 02, L2: due from the request that brings GenTID back to 0, whatever its class, and after its own Invoke
+        c.t.tidnew_due = 1 if c.t.gen == 0 else c.t.tidnew_due
     return call("request", end, time, tests, event)
 
 
@@ -651,6 +662,6 @@ def make_fresh(end, first):
     if not good:
         return 10
     t = Table(bytes(table_bytes(n)))
-    t.gen, (t.rcr_max, t.aec_max, t.a, t.w), t.rows = first, words[:4], [words[4:13], words[13:22]]
+    t.tidnew_due, t.gen, (t.rcr_max, t.aec_max, t.a, t.w), t.rows = 1, first, words[:4], [words[4:13], words[13:22]]
     end.octets[:lent(end, 0)] = t.octets()
     return 0

@@ -19,8 +19,8 @@ from playing import (G, R, abo, ans, due, edge, expected, fir, fires, fresh, get
 def first_contact(cls, up=0, d="AABB", peer=5):
     """Two fresh ends; a request that the gateway verifies, up to its user's indication."""
     pair()
-    req(R, 100, peer, cls, up, d, has="; sent 0E0007%02X%s; tid 7" % (16 * up + cls, d))
-    get(G, 110, peer, has="ToVerify%d}; sent 1C8007" % cls)
+    req(R, 100, peer, cls, up, d, has="; sent 0E0007%02X%s; tid 7" % (32 + 16 * up + cls, d))
+    get(G, 110, peer, has="Restarted%d}; sent 1C8007" % cls)
     get(R, 120, peer, has="TidokSent}; sent 1C0007")
     get(G, 130, peer, has="; invoke responder %d/7 class %d" % (peer, cls))
 
@@ -141,7 +141,7 @@ def exit_information():
     title("exit information from the initiator, repeated with the last Ack")
     pair()
     req(R, 10, 5, 2), rcv(R, 20, 5, "168007 01"), ans(R, 30, 0, 5, 7, "A1A2A3A4", has="; sent 9800070C04A1A2A3A4")
-    rcv(R, 40, 5, "178007 01", has="{IWaitTimeout ResultRid ResultSeenAgain}; sent 9900070C04A1A2A3A4"), look(R, has="due 5030 length 0 exit A1A2A3A4")
+    rcv(R, 40, 5, "178007 01", has="{IWaitTimeout ResultRid ResultSeenAgain}; sent 9900070C04A1A2A3A4"), look(R, has="due 5030 length 0 TIDnew exit A1A2A3A4")
     title("a confirmation shows the first Info item of its Ack, also an empty one; other items are passed over")
     for text, has in (("988007 0A1122", "datagram 4+2 1122"), ("988007 9155 0A1122", "datagram 6+2 1122"), ("988007 8911 0A2233", "datagram 4+1 11"),
                       ("988007 88 0A2233", "datagram 4+0"), ("988007 1155", "no data"), ("988007 0C02 AABB", "datagram 5+2 AABB")):
@@ -162,7 +162,7 @@ def resending():
     due = 2100
     for k in range(1, 5):
         tim(R, due - 1, has="; none due")
-        tim(R, due, has="{IResultWait1 Timer Resent}; sent 0F000701AABB; fired initiator 5/7")
+        tim(R, due, has="{IResultWait1 Timer Resent}; sent 0F000721AABB; fired initiator 5/7")
         due += 2000 + 100 * k
         look(R, has="RCR %d AEC 0 due %d" % (k, due))
     tim(R, due, has="{IResultWait1 Timer GivenUp}; fired initiator 5/7; abort initiator 5/7 reason 8 no data")
@@ -170,7 +170,7 @@ def resending():
     title("the same for class 2, whose intervals are the other row; a late call fires once and counts from its own time")
     pair()
     req(R, 100, 5, 2, 1, "AABB")
-    tim(R, 3099, has="; none due"), tim(R, 50000, has="{IResultWait2 Timer Resent}; sent 0F000712AABB"), look(R, has="RCR 1 AEC 0 due 53100")
+    tim(R, 3099, has="; none due"), tim(R, 50000, has="{IResultWait2 Timer Resent}; sent 0F000732AABB"), look(R, has="RCR 1 AEC 0 due 53100")
     tim(R, 50000, has="; none due")
     title("a Result resent to RCR_MAX 4, then given up")
     pair()
@@ -182,7 +182,7 @@ def resending():
     tim(G, due, has="{RResultRespWait Timer GivenUp}; fired responder 5/7; abort responder 5/7 reason 8 no data")
     title("RCR_MAX 0 sends one Invoke")
     pair(_0=0)
-    req(R, 100, 5, 2, 0, "AABB", has="; sent 0E000702AABB")
+    req(R, 100, 5, 2, 0, "AABB", has="; sent 0E000722AABB")
     tim(R, 3100, has="{IResultWait2 Timer GivenUp}; fired initiator 5/7; abort initiator 5/7 reason 8 no data")
     title("RCR_MAX 0: a TIDve is not answered, so that first contact never succeeds; a running timer runs on")
     pair(_0=0)
@@ -199,7 +199,7 @@ def resending():
     look(R, has="RCR 8 AEC 0 due 87200000"), tim(R, 87199999, has="; none due"), tim(R, 87200000, has="GivenUp}")
     title("a TIDok is counted in RCR and, once sent, is what the timer resends, with RID; the first has none even after resent Invokes")
     pair(_0=3)
-    req(R, 100, 5, 1, 0, "AABB"), tim(R, 2100, has="; sent 0F000701AABB")
+    req(R, 100, 5, 1, 0, "AABB"), tim(R, 2100, has="; sent 0F000721AABB")
     rcv(R, 2200, 5, "1C8007", has="TidokSent}; sent 1C0007"), look(R, has="RCR 2 AEC 0 due 4400 length 2 TIDok-sent")
     tim(R, 4400, has="{IResultWait1 Timer Resent}; sent 1D0007"), rcv(R, 4500, 5, "1D8007", has="{IResultWait1 TidAckRid Ignored}")
     look(R, has="RCR 3 AEC 0 due 6700"), tim(R, 6700, has="GivenUp}")
@@ -223,9 +223,9 @@ def cached(last, peer=5, e=G):
 def tids():
     title("GenTID counts 32,767 -> 0, for class 0 too; a refused request doesn't count")
     pair(first=32766)
-    req(R, 10, 5, 0, has="; sent 0E7FFE00; tid 32766"), req(R, 20, 5, 1, has="; sent 0E7FFF01; tid 32767"), look(R, has="next TID 0;")
-    req(R, 30, 5, 3, has="refused 5"), look(R, has=": clock 20, next TID 0;")
-    req(R, 30, 5, 2, has="; sent 0E000002; tid 0"), req(R, 40, 5, 2, has="refused 7"), look(R, has=": clock 30, next TID 1;")
+    req(R, 10, 5, 0, has="; sent 0E7FFE00; tid 32766"), req(R, 20, 5, 1, has="; sent 0E7FFF21; tid 32767"), look(R, has="next TID 0, TIDnew due;")
+    req(R, 30, 5, 3, has="refused 5"), look(R, has=": clock 20, next TID 0, TIDnew due;")
+    req(R, 30, 5, 2, has="; sent 0E000022; tid 0"), req(R, 40, 5, 2, has="refused 7"), look(R, has=": clock 30, next TID 1;")
     title("LastTID 32,767, TID 0: valid; LastTID is then 0")
     cached(32767)
     rcv(G, 10, 5, "0E000002 AB", has="{Free Invoke Valid2}; invoke responder 5/0 class 2 datagram 4+1 AB"), look(G, has="last of 5 is 0;")
@@ -248,12 +248,9 @@ def tids():
     title("two verifications in flight: the first that is finished sets LastTID, the second doesn't")
     pair()
     rcv(G, 10, 5, "0E000901"), rcv(G, 20, 5, "0E000A02")
-    look(G, has=": clock 20, next TID 7; record 0 RTidokWait1 5/9 RCR 0 AEC 0 due 0 length 0; record 1 RTidokWait2 5/10")
+    look(G, has=": clock 20, next TID 7, TIDnew due; record 0 RTidokWait1 5/9 RCR 0 AEC 0 due 0 length 0; record 1 RTidokWait2 5/10")
     rcv(G, 30, 5, "1D000A", has="{RTidokWait2 TidAckRid Verified2}; invoke responder 5/10"), look(G, has="last of 5 is 10;")
     rcv(G, 40, 5, "1C0009", has="{RTidokWait1 TidAck Verified1}; invoke responder 5/9"), look(G, has="last of 5 is 10;")
-    title("TIDnew is read without effect: a valid TID stays valid, LastTID stays")
-    cached(6)
-    rcv(G, 10, 5, "0E000721", has="{Free Invoke Valid1}"), rcv(G, 20, 5, "0E000621", has="{Free Invoke ToVerify1}"), look(G, has="last of 5 is 7;")
     title("a valid Invoke writes no cell: the message is shown from the datagram; to be verified, it is kept and shown from the store")
     cached(6)
     rcv(G, 10, 5, "0E000702 A1A2", has="datagram 4+2 A1A2"), look(G, has="due 1010 length 0")
@@ -268,6 +265,100 @@ def tids():
     req(R, 10, 5, 2), rcv(R, 20, 5, "168007"), rcv(R, 30, 5, "1C8007", has="{IResultRespWait TidAck Ignored}")
 
 
+def as_read(records, first):
+    """Two fresh ends with the settings of the examples of document 02's reading: RCR_MAX 2, AEC_MAX 1, A 100, W 200, R 50 and 150 growing by 10."""
+    rows = {"_%d" % (at + k): start + 10 * k for at, start in ((4, 50), (13, 150)) for k in range(9)}
+    pair(records, first, _0=2, _1=1, _2=100, _3=200, **rows)
+
+
+def tidnew():
+    title("02, L2: the first class 2 Invoke from a fresh table is 0E 00 05 22 and its repeat 0F 00 05 22; a later one is 0E 00 05 02")
+    as_read(1, 5)
+    req(R, 0, 7, 2, has="; sent 0E000522; tid 5"), look(R, has="next TID 6; record 0 IResultWait2 7/5 RCR 0 AEC 0 due 150 length 0 TIDnew"), tim(R, 150, has="; sent 0F000522")
+    as_read(2, 4)
+    req(R, 0, 7, 1, has="; sent 0E000421"), req(R, 0, 7, 2, has="; sent 0E000502"), fir(R, 150, 0, 7, 5, has="; sent 0F000502"), tim(R, 150, has="; sent 0F000421")
+    title("TIDnew due from the fresh table and again after the wrap; class 0 and a refused request leave it due")
+    as_read(3, 32766)
+    req(R, 0, 7, 0, 1, "AB", has="; sent 0E7FFE10AB"), req(R, 0, 7, 3, has="refused 5"), req(R, 0, 7, 2, 1, "AB", has="; sent 0E7FFF32AB"), look(R, has="next TID 0, TIDnew due;")
+    tim(R, 150, has="; sent 0F7FFF32AB"), req(R, 150, 7, 1, has="; sent 0E000021"), req(R, 150, 7, 1, has="; sent 0E000101")
+    title("the Invoke whose request brings GenTID to 0 carries TIDnew only where it was due before; each repeat has its own record's")
+    as_read(3, 32766)
+    req(R, 0, 7, 2, has="; sent 0E7FFE22"), req(R, 0, 7, 2, has="; sent 0E7FFF02"), tim(R, 150, has="; sent 0F7FFE22"), tim(R, 150, has="; sent 0F7FFF02"), req(R, 150, 7, 2, has="; sent 0E000022")
+    tim(R, 320, has="; sent 0F000022"), tim(R, 320, has="; sent 0F7FFE22"), tim(R, 320, has="; sent 0F7FFF02")
+    title("a fresh table owes one TIDnew, not two, where its first GenTID is 0; each class, at 32,767 too")
+    for cls in (1, 2):
+        for first, next_tid in ((0, "0001"), (5, "0006")):
+            pair(first=first)
+            req(R, 10, 5, cls, has="; sent 0E%04X2%d" % (first, cls)), req(R, 20, 5, cls, has="; sent 0E%s0%d" % (next_tid, cls)), look(R, has=": clock 20, next TID %d; " % (first + 2))
+        pair(first=32767)
+        req(R, 10, 5, cls, has="; sent 0E7FFF2%d" % cls), req(R, 20, 5, cls, has="; sent 0E00002%d" % cls)
+        pair(first=32767)
+        put(R, 97, 0), req(R, 10, 5, cls, has="; sent 0E7FFF0%d" % cls), look(R, has="next TID 0, TIDnew due;"), req(R, 20, 5, cls, has="; sent 0E00002%d" % cls)
+    title("class 0 carries none and takes none away; the one that brings GenTID to 0 makes it due")
+    pair(first=32766)
+    req(R, 10, 5, 1, has="; sent 0E7FFE21"), req(R, 20, 5, 0, has="; sent 0E7FFF00"), look(R, has="next TID 0, TIDnew due;"), req(R, 30, 5, 0, 1, has="; sent 0E000010"), req(R, 40, 5, 1, has="; sent 0E000121")
+    req(R, 50, 5, 0, has="; sent 0E000200"), look(R, has="next TID 3;")
+    pair(first=32767)
+    req(R, 10, 5, 0, has="; sent 0E7FFF00"), look(R, has="next TID 0, TIDnew due"), req(R, 20, 5, 2, has="; sent 0E000022")
+    title("a refused request leaves it due: 2, 3, 4, 5, 6, 7")
+    pair(records=1)
+    tim(R, 100)
+    req(R, 99, 5, 1, has="refused 2"), req(R, 100, 256, 1, has="refused 3"), req(R, 100, 5, 1, 0, "00" * 1025, has="refused 4"), req(R, 100, 5, 3, has="refused 5"), look(R, has="next TID 7, TIDnew due")
+    req(R, 100, 5, 1, has="; sent 0E000721"), put(R, 97, 1), req(R, 100, 5, 1, has="refused 7"), put(R, 8, 7), req(R, 100, 6, 2, has="refused 6"), look(R, has="next TID 7, TIDnew due;")
+    title("TIDok is as it was; the record keeps TIDnew until it ends, and a free record is zero")
+    pair()
+    req(R, 10, 5, 2, has="; sent 0E000722"), rcv(R, 20, 5, "1C8007", has="; sent 1C0007"), tim(R, 3120, has="; sent 1D0007"), look(R, has="TIDok-sent TIDnew"), rcv(R, 3130, 5, "168007", has="ResultConfirms}")
+    look(R, has="IResultRespWait 5/7 RCR 2 AEC 0 due 4130 length 0 TIDok-sent TIDnew"), ans(R, 3140, 0, 5, 7, has="; sent 180007"), look(R, has="IWaitTimeout"), tim(R, 8140, has="TimeoutEnds}"), look(R)
+    title("TIDnew at a responder, the reading's example: the cached TID is dropped, and the Invoke verified although its distance is 1")
+    as_read(4, 5)
+    put(G, 112 + 14, 0x41), put(G, 112 + 16, 9)
+    rcv(G, 0, 7, "0E004122 CC", has="{Free Invoke Restarted2}; sent 1C8041"), look(G, has=": clock 0, next TID 5, TIDnew due, last of 8 is 8; record 0 RTidokWait2 7/65")
+    rcv(G, 0, 7, "0E004201", has="{Free Invoke ToVerify1}; sent 1C8042"), rcv(G, 0, 7, "1D0041", has="Verified2}; invoke responder 7/65 class 2 store 0+1 CC"), look(G, has=", last of 7 is 65, last of 8 is 8;")
+    rcv(G, 0, 7, "0E004302", has="{Free Invoke Valid2}; invoke responder 7/67"), look(G, has="last of 7 is 67, last of 8 is 8;")
+    title("each distance and RID with TIDnew, class 1 and 2: dropped and verified")
+    for cls in (1, 2):
+        for text in ("0E0001", "0F0001", "0E0000", "0F7FFF", "0E4000", "0E3FFF"):
+            cached(0)
+            rcv(G, 10, 5, "%s3%d AA" % (text, cls), has=["Restarted%d}; sent 1C" % cls]), look(G, has="next TID 7, TIDnew due; record 0 RTidokWait%d 5/" % cls)
+        pair()
+        rcv(G, 10, 5, "0E00092%d" % cls, has="Restarted%d}; sent 1C8009" % cls), look(G, has="next TID 7, TIDnew due; record 0")
+    title("LastTID stays where an earlier test decides: version, TTR, length, no free record, malformed, class 0, top bit 1")
+    for cls in (1, 2):
+        cached(6)
+        rcv(G, 10, 5, "0E00076%d" % cls, has="WrongVersion}; sent 20800706"), rcv(G, 20, 5, "0C00072%d" % cls, has="Unsupported}; sent 20800704"), rcv(G, 30, 5, "0E00072%d" % cls, [1] * 1025, has="TooLong}; sent 20800707")
+        rcv(G, 40, 5, "8E00072%d" % cls, has="Malformed}; sent 20800701"), rcv(G, 50, 5, "0E80072%d" % cls, has="{Nobody}"), look(G, has="last of 5 is 6")
+    rcv(G, 60, 5, "0E000723", has="Malformed}; sent 20800701"), rcv(G, 60, 5, "0E000720 AA", has="Shown0}; invoke responder 5/7"), rcv(G, 60, 5, "0E000760", has="Ignored}"), rcv(G, 60, 5, "0C000720", has="Ignored}")
+    rcv(G, 60, 5, "0E000720", [1] * 1025, has="Ignored}"), look(G, has="last of 5 is 6")
+    pair(records=1)
+    put(G, 112 + 10, 9), rcv(G, 10, 5, "0E000901", has="Valid1}"), rcv(G, 20, 5, "0E000A21", has="{Free Invoke Ignored}"), rcv(G, 30, 5, "0E000A22", has="{Free Invoke Ignored}"), rcv(G, 40, 5, "0E000A20", has="Shown0}")
+    look(G, has="last of 5 is 9; record 0 RInvokeRespWait1 5/9")
+    title("an Invoke with TIDnew that names a live record is that record's event: LastTID stays")
+    cached(6)
+    rcv(G, 10, 5, "0E000702", has="Valid2}"), rcv(G, 20, 5, "0F000722", has="{RInvokeRespWait2 InvokeRid Ignored}"), rcv(G, 30, 5, "0E000622", has="Restarted2}"), look(G, has="next TID 7, TIDnew due; record 0")
+    cached(6)
+    rcv(G, 10, 5, "0E000702", has="Valid2}"), rcv(G, 20, 5, "0E000602", has="ToVerify2}"), rcv(G, 30, 5, "0F000622", has="TidveRepeated}; sent 1D8006"), rcv(G, 40, 5, "0E000622", has="{RTidokWait2 Invoke Ignored}"), look(G, has="last of 5 is 7;")
+    title("what was dropped stays dropped when the verification fails; a valid distance is then verified too")
+    cached(6)
+    rcv(G, 10, 5, "0E000322", has="Restarted2}"), rcv(G, 20, 5, "200003 08", has="PeerAbortsUnseen}"), look(G, has=": clock 20, next TID 7, TIDnew due"), rcv(G, 30, 5, "0E000702", has="ToVerify2}; sent 1C8007")
+    title("a reader that restarts with lower TIDs is verified once, not on every upload; without TIDnew it is on every one")
+    sets()
+    fresh(R, 4, 500), fresh(G, 4, 1)
+    upload(500, "21", "Restarted1"), upload(501, "01", "Valid1")
+    fresh(R, 4, 20)
+    upload(20, "21", "Restarted1"), upload(21, "01", "Valid1"), upload(22, "01", "Valid1"), look(G, has="last of 5 is 22")
+    for tid in (10, 11, 12):
+        rcv(G, 600, 5, "0E00%02X01" % tid, has="ToVerify1}"), rcv(G, 600, 5, "1C00%02X" % tid, has="Verified1}"), abo(G, 600, 1, 5, tid, 0)
+    look(G, has="last of 5 is 22")
+
+
+def upload(tid, fourth, row):
+    """A class 1 request at the reader, its TID verified where the row says so, up to its end at both ends."""
+    req(R, 600, 5, 1, has="; sent 0E%04X%s" % (tid, fourth)), get(G, 600, 5, has="{Free Invoke %s}" % row)
+    if row != "Valid1":
+        get(R, 600, 5, has="; sent 1C%04X" % tid), get(G, 600, 5, has="Verified1}; invoke responder 5/%d" % tid)
+    abo(G, 600, 1, 5, tid, 0), get(R, 600, 5, has="PeerAborts}")
+
+
 def openings():
     title("a first Invoke of class 1 and 2: version, then TTR, then data over 1,024")
     for cls in (1, 2):
@@ -276,7 +367,7 @@ def openings():
         rcv(G, 30, 5, "0C00070%d" % cls, [1] * 1025, has="{Free Invoke Unsupported}; sent 20800704"), rcv(G, 40, 5, "090007C%d" % cls, has="; sent 20800706")
         rcv(G, 50, 5, "0E00070%d" % cls, [1] * 1025, has="{Free Invoke TooLong}; sent 20800707")
         rcv(G, 60, 5, "0A00070%d" % cls, [1] * 1024, has="{Free Invoke Valid%d}; invoke responder 5/7 class %d datagram 4+1024 01*1024," % (cls, cls))
-        look(G, has=": clock 60, next TID 7, last of 5 is 7;")
+        look(G, has=": clock 60, next TID 7, TIDnew due, last of 5 is 7;")
     title("class 0 that fails version, TTR or length is ignored; 1,024 bytes are shown")
     pair()
     rcv(G, 10, 5, "0E000740", has="{Free Invoke Ignored}"), rcv(G, 20, 5, "0C000700", has="{Free Invoke Ignored}"), rcv(G, 30, 5, "0E000700", [1] * 1025, has="Ignored}")
@@ -290,7 +381,7 @@ def openings():
     rcv(G, 10, 5, "0E000901", has="Valid1}")
     rcv(G, 20, 5, "0E000A00 11", has="Shown0}; invoke responder 5/10 datagram 4+1 11"), rcv(G, 30, 5, "0E000A01", has="{Free Invoke Ignored}"), rcv(G, 40, 6, "0E000A02", has="{Free Invoke Ignored}")
     rcv(G, 50, 5, "0E000A41", has="; sent 20800A06"), rcv(G, 60, 5, "0C000A02", has="; sent 20800A04"), rcv(G, 70, 5, "0E000A02", [1] * 1025, has="; sent 20800A07"), rcv(G, 80, 5, "0E000A03", has="; sent 20800A01")
-    look(G, has=": clock 80, next TID 7, last of 5 is 9; record 0 RInvokeRespWait1 5/9")
+    look(G, has=": clock 80, next TID 7, TIDnew due, last of 5 is 9; record 0 RInvokeRespWait1 5/9")
     title("a first Invoke with RID is opened like any other")
     cached(6)
     rcv(G, 10, 5, "0F000701", has="{Free InvokeRid Valid1}; invoke"), rcv(G, 20, 6, "0F000702", has="{Free InvokeRid ToVerify2}; sent 1C8007")
@@ -305,7 +396,7 @@ def openings():
     title("data 1,024 accepted, sent whole and resent from the store; 1,025 gives 4")
     pair()
     req(R, 10, 5, 1, 0, ("5A" * 1025), has="refused 4"), req(R, 10, 5, 0, 0, ("5A" * 1025), has="refused 4")
-    req(R, 10, 5, 1, 0, ("5A" * 1024), has="; sent 0E0007015A*1024,; tid 7"), tim(R, 2010, has="; sent 0F0007015A*1024,")
+    req(R, 10, 5, 1, 0, ("5A" * 1024), has="; sent 0E0007215A*1024,; tid 7"), tim(R, 2010, has="; sent 0F0007215A*1024,")
     get(G, 10, 5, has="; sent 1C8007"), rcv(G, 20, 5, "1C0007", has="store 0+1024 5A*1024,")
     title("a result of 1,024 bytes is sent and resent; 1,025 gives 4")
     pair()
@@ -532,7 +623,7 @@ def timers():
     for cls in (1, 2):
         pair()
         rcv(G, 10, 5, "0E00070%d" % cls), put(G, 632, 100), tim(G, 99, has="; none due"), tim(G, 100, has="{RTidokWait%d Timer Ignored}; fired responder 5/7" % cls), tim(G, 200, has="; fired responder 5/7")
-        look(G, has=": clock 200, next TID 7; record 0 RTidokWait%d 5/7 RCR 0 AEC 0 due 100" % cls)
+        look(G, has=": clock 200, next TID 7, TIDnew due; record 0 RTidokWait%d 5/7 RCR 0 AEC 0 due 100" % cls)
     title("a PDU or a firing that is ignored stores its time")
     pair()
     rcv(R, 500, 5, "188005", has="Ignored}"), tim(R, 499, has="refused 2"), rcv(R, 500, 5, "18", has="{Nobody}"), rcv(R, 600, 5, "0E800701", has="{Nobody}"), look(R, has=": clock 600")
@@ -540,15 +631,14 @@ def timers():
 
 def timer_in_two():
     title("02, L3: the earliest deadline, and the firing of a record that is named: the reading's example, row by row")
-    sets(_0=2, _1=1, _2=100, _3=200, **{"_%d" % (first + k): start + 10 * k for first, start in ((4, 50), (13, 150)) for k in range(9)})
-    fresh(R, 3, 5)
-    req(R, 1000, 7, 2, has="; sent 0E000502; tid 5"), req(R, 1000, 8, 1, 0, "01", has="; sent 0E00060101; tid 6"), req(R, 1000, 9, 1, 0, "02", has="; sent 0E00070102; tid 7")
+    as_read(3, 5)
+    req(R, 1000, 7, 2, has="; sent 0E000522; tid 5"), req(R, 1000, 8, 1, 0, "01", has="; sent 0E00060101; tid 6"), req(R, 1000, 9, 1, 0, "02", has="; sent 0E00070102; tid 7")
     due(R, has=": ok; 1050 initiator 8/6")
     fir(R, 1049, 0, 9, 7, has="refused 9")
     fir(R, 1050, 0, 9, 9, has="refused 8")
     fir(R, 1050, 0, 256, 9, has="refused 3")
     fir(R, 1050, 0, 9, 7, has="; sent 0F00070102; fired initiator 9/7")
-    fir(R, 1160, 0, 7, 5, has="; sent 0F000502; fired initiator 7/5")
+    fir(R, 1160, 0, 7, 5, has="; sent 0F000522; fired initiator 7/5")
     tim(R, 1160, has="; sent 0F00060101; fired initiator 8/6")
     due(R, has=": ok; 1110 initiator 9/7")
     title("no deadline: no live record, TIDOK WAIT, held on; firing such a record gives 9")
@@ -564,12 +654,12 @@ def timer_in_two():
     pair(records=3)
     for e in (R, G):
         req(e, 100, 5, 2, 0, "A1"), req(e, 100, 6, 1, 0, "B2"), rcv(e, 100, 7, "0E000911"), rcv(e, 100, 7, "1C0009")
-    for name, has in (((1, 7, 9), "fired responder 7/9"), ((0, 6, 8), "; sent 0F000801B2; fired initiator 6/8"), ((0, 5, 7), "; sent 0F000702A1; fired initiator 5/7")):
+    for name, has in (((1, 7, 9), "fired responder 7/9"), ((0, 6, 8), "; sent 0F000801B2; fired initiator 6/8"), ((0, 5, 7), "; sent 0F000722A1; fired initiator 5/7")):
         tim(R, 9000, has=has), due(G, has="initiator %d/%d" % name[1:] if name[0] == 0 else "responder 7/9"), fir(G, 9000, *name, has=has)
         assert expected[-1].split(":", 1)[1] == expected[-3].split(":", 1)[1] and ends[R].octets[:table_bytes(3)] == ends[G].octets[:table_bytes(3)]
     look(R, has=": clock 9000,"), tim(R, 9500, has="; none due"), look(R, has=": clock 9500,"), due(G), fir(G, 9500, 0, 5, 7, has="refused 9"), look(G, has=": clock 9000,")
     title("the timer's row of every state, fired by name: one millisecond before its deadline it isn't due")
-    for state, has in (("IResultWait1", "; sent 0F000701AABB"), ("IResultWait2", "; sent 0F000702AABB"), ("RResultRespWait", "; sent 178007DDEE")):
+    for state, has in (("IResultWait1", "; sent 0F000721AABB"), ("IResultWait2", "; sent 0F000722AABB"), ("RResultRespWait", "; sent 178007DDEE")):
         e, role = reach(state)
         for k in range(4):
             fires(e, role, has=has)
@@ -599,7 +689,7 @@ def timer_in_two():
     req(R, 10, 5, 1), put(R, 100, 1), fir(R, 9, 2, 256, 7, has="refused 1"), put(R, 100, 0), fir(R, 9, 2, 256, 7, has="refused 2"), fir(R, 10, 2, 256, 7, has="refused 3"), fir(R, 10, 0, 2 ** 64 - 1, 7, has="refused 3")
     for name in ((2, 5, 7), (2 ** 64 - 1, 5, 7), (1, 5, 7), (0, 6, 7), (0, 5, 8), (0, 5, 0x8007), (0, 5, 65536 + 7), (0, 5, 2 ** 64 - 1)):
         fir(R, 10, *name, has="refused 8")
-    fir(R, 10, 0, 5, 7, has="refused 9"), fir(R, 2009, 0, 5, 7, has="refused 9"), look(R, has=": clock 10,"), fir(R, 2010, 0, 5, 7, has="; sent 0F000701; fired initiator 5/7")
+    fir(R, 10, 0, 5, 7, has="refused 9"), fir(R, 2009, 0, 5, 7, has="refused 9"), look(R, has=": clock 10,"), fir(R, 2010, 0, 5, 7, has="; sent 0F000721; fired initiator 5/7")
 
 
 def refusals():
@@ -635,11 +725,15 @@ def refusals():
     title("number 1: a damaged table, one field after the other, each mended again; the time is wrong as well")
     pair(records=2, _0=4, _1=2)
     tim(R, 50), req(R, 60, 5, 1), req(R, 70, 5, 2)
-    for at, value in ((7, 1), (9, 128), (10, 9), (11, 9), (15, 255), (23, 255), (92, 1), (111, 1), (113, 129), (624, 12), (624, 0), (627, 128), (628, 5), (629, 3), (630, 16), (631, 129), (639, 1), (641, 255), (644, 1), (671, 255)):
+    for at, value in ((7, 1), (9, 128), (10, 9), (11, 9), (15, 255), (23, 255), (92, 1), (96, 1), (97, 2), (98, 1), (111, 1), (113, 129), (624, 12), (624, 0), (627, 128), (628, 5), (629, 3), (630, 32), (631, 129), (639, 1), (641, 255), (644, 1), (671, 255)):
         was = ends[R].octets[at]
         put(R, at, value), tim(R, 49, has="refused 1"), put(R, at, was)
     put(R, 10, 9), req(R, 0, 256, 3, 0, "00" * 1025, has="refused 1"), put(R, 10, 4)
     edge("damaged table and time wrong")
+    title("number 1: the flag TIDnew in a responder's record; an initiator's may have it in every state")
+    for state in STATES[1:]:
+        e, role = reach(state)
+        put(e, 630, ends[e].octets[630] | 16), tim(e, 400, has="; none due" if role == 0 else "refused 1")
     title("what is not judged: exit information past its length; it stays as it is, and is zeroed with its record")
     pair(records=2)
     req(R, 60, 5, 1), req(R, 70, 6, 1)
@@ -731,7 +825,7 @@ def mixups():
     sets()
     fresh(R, 2, 32767), fresh(G, 2, 0)
     req(R, 10, 5, 1), get(G, 20, 5, has="; sent 1CFFFF"), get(R, 30, 5, has="; sent 1C7FFF"), get(G, 40, 5, has="Verified1}; invoke responder 5/32767"), ans(G, 50, 1, 5, 32767), get(R, 60, 5, has="Confirmed}")
-    req(R, 70, 5, 1, has="; tid 0"), get(G, 80, 5, has="{Free Invoke Valid1}; invoke responder 5/0")
+    rcv(G, 80, 5, "0E000001", has="{Free Invoke Valid1}; invoke responder 5/0")
     title("mix-up: the RID-clear copy of an Invoke answered again. It is not, in any state")
     first_contact(1)
     rcv(G, 135, 5, "0E000701 AABB", has="{RInvokeRespWait1 Invoke Ignored}"), ans(G, 140, 1, 5, 7, has="; sent 188007"), rcv(G, 150, 5, "0E000701 AABB", has="{RWaitTimeout Invoke Ignored}"), rcv(G, 160, 5, "0F000701 AABB", has="; sent 198007")
@@ -775,8 +869,12 @@ def needed():
     yield from (("dispatch", "%d octets" % n, "") for n in (1, 2))
     yield from (("dispatch", d, f) for d in ("Invoke with top bit 1", "Result with top bit 0") for f in ("well formed", "malformed"))
     yield from (("dispatch", "ignored direction", c) for c in ("live record", "no record"))
-    yield from (("first Invoke, class 0", t, "") for t in ("a", "b", "c", "d", "d, full table"))
-    yield from (("first Invoke, class %d" % k, t, "") for k in (1, 2) for t in ("a", "b", "c", "e", "f", "g, none cached", "g, d = 0", "g, d over 16,383"))
+    distances = ["g, none cached", "g, d = 0", "g, d over 16,383"]
+    yield from (("first Invoke, class 0", t, tidnew) for tidnew in ("", "TIDnew") for t in ("a", "b", "c", "d", "d, full table"))
+    yield from (("first Invoke, class %d" % k, t, "") for k in (1, 2) for t in ["a", "b", "c", "e", "f"] + distances)
+    yield from (("first Invoke, class %d" % k, t, "TIDnew") for k in (1, 2) for t in ["a", "b", "c", "e", "g, d 1 to 16,383"] + distances)
+    yield from (("request, class %d" % k, due, to_0) for k in (0, 1, 2) for due in ("due", "not due") for to_0 in ("", "GenTID to 0"))
+    yield from (("Invoke again", tidnew, due) for tidnew in ("TIDnew", "no TIDnew") for due in ("due", "not due"))
     yield from (("timer", "fired", c) for c in ("alone", "later ones due", "a tie"))
     yield ("timer", "none due", "")
     yield from (("fire", "fired", c) for c in ("the earliest", "a later one"))
@@ -800,13 +898,14 @@ EDGES = ["data 1,025 and peer 256", "data 1,025, class 3", "class 3 at a full ta
 ROWS = """Ignored NotAllowed PeerAborts Malformed UserAborts PeerAbortsUnseen MalformedUnseen TidokSent Confirmed HeldOn Resent GivenUp ResultUnsupported ResultConfirms ResultTaken ResultAnswered
           ResultAcked UserAwaited UserSilent ResultSeenAgain TimeoutEnds Verified1 Verified2 TidveRepeated InvokeAnswered InvokeAcked UserWorks HoldOnSent ResultSent HoldOnRepeated ResultResent
           InvokeSeenAgain TidokSeenAgain"""
-OPENINGS = "Ignored Requested0 Requested1 Requested2 Malformed WrongVersion Unsupported TooLong Shown0 Valid1 Valid2 ToVerify1 ToVerify2 UnknownTidve"
+OPENINGS = "Ignored Requested0 Requested1 Requested2 Malformed WrongVersion Unsupported TooLong Shown0 Valid1 Valid2 ToVerify1 ToVerify2 Restarted1 Restarted2 UnknownTidve"
 
 transactions()
 user_acknowledgement()
 exit_information()
 resending()
 tids()
+tidnew()
 openings()
 malformed()
 in_every_state()

@@ -23,7 +23,8 @@ static void show_pdu(const uint8_t *pdu, size_t length)
     else if (result != WTP_OK)
         printf("refused, %u\n", (unsigned)result);
     else {
-        printf("%s, TID %u%s", types[fields[WTP_TYPE]], (unsigned)(fields[WTP_TID] % 32768), fields[WTP_RID] ? ", repeated" : "");
+        printf("%s, TID %u%s%s", types[fields[WTP_TYPE]], (unsigned)(fields[WTP_TID] % 32768), fields[WTP_TIDNEW] ? ", TIDnew" : "",
+               fields[WTP_RID] ? ", repeated" : "");
         for (uint64_t k = 0; k < fields[WTP_ITEMS]; k++) {
             const uint64_t *item = fields + WTP_ITEM + 4 * k;
             printf(", item %u: ", (unsigned)item[0]);
@@ -55,7 +56,7 @@ static void show_datagram(const uint8_t *datagram, size_t length)
 int main(void)
 {
     static const struct { size_t length; uint8_t octets[6]; } pdus[] = {
-        {4, {0x0E, 0x00, 0x05, 0x02}}, {4, {0x0F, 0x00, 0x05, 0x02}}, {3, {0x16, 0x80, 0x05}}, {3, {0x1C, 0x80, 0x05}},
+        {4, {0x0E, 0x00, 0x05, 0x22}}, {4, {0x0F, 0x00, 0x05, 0x22}}, {4, {0x0E, 0x00, 0x05, 0x02}}, {3, {0x16, 0x80, 0x05}}, {3, {0x1C, 0x80, 0x05}},
         {4, {0x20, 0x00, 0x05, 0x02}}, {6, {0x98, 0x00, 0x05, 0x0A, 0xAA, 0xBB}}, {1, {0x00}}, {3, {0x0E, 0x00, 0x05}},
         {4, {0x0E, 0x00, 0x05, 0x03}}, {4, {0x18, 0x80, 0x05, 0x00}},
     };

@@ -176,6 +176,23 @@ vanished() {
 }
 check "a file that can't be written any more" vanished
 
+echo "a reader that restarts"
+from="$(python3 -c 'import socket
+own = socket.socket(socket.AF_INET, socket.SOCK_DGRAM)
+own.bind(("127.0.0.1", 0))
+print("127.0.0.1:%d" % own.getsockname()[1])')"
+three="$(file three.csv 'sampler,site\n0041,Quay\n0042,Quay\n0049,Quay\n')"
+# uploads FIRST-TID: three samplers, one after the other, from the same address each time.
+uploads() {
+    says 0 "3 of 3 samplers: VALUE" reader --gateway "$address" --from "$from" --first-tid "$1" --records 1 --interval 100 --retries 3 "$three"
+}
+gateway restarts --quiet
+check "three uploads" uploads 20000
+check "three more after a restart with lower TIDs" uploads 5
+stop "$process"
+check "each start was verified once, and no other upload" waits_for "gateway: 2 verifications begun, 6 results confirmed" "$work/restarts.log"
+check "an own address that isn't one" says 2 "isn't an address" reader --from nowhere "$one"
+
 echo "frames of the Reliable Data Service"
 gateway frames --rds --loss 10
 check "a value on a bad line" says 0 "VALUE         NO2 41.2 ug/m3" reader --rds --gateway "$address" --interval 100 --loss 20 --duplicate 20 "$one"

@@ -5,6 +5,7 @@
 
 #define LAST (RECORDS - 1)
 #define USER_ACK 0x10 /* U/P of an Invoke's fourth octet */
+#define TIDNEW 0x20
 #define VERSION_1 0x40
 
 /* A row of a PDU that is taken from the peer. */
@@ -30,6 +31,9 @@ static void first_invokes(void)
     responders(RECORDS, LAST, 2);
     invoke(INVOKE, 0, 2);
     taken("Invoke to be verified, 1,024 octets, the last of 48 records", octets_of(WTP_CELL));
+    responders(RECORDS, LAST, 2);
+    invoke(INVOKE, RECORDS, 2 | TIDNEW);
+    taken("Invoke with TIDnew, 1,024 octets, the last of 48 records", octets_of(WTP_CELL));
 }
 
 static void refused_invokes(void)

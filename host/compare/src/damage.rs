@@ -46,12 +46,13 @@ fn scribble(random: &mut Random, table: &mut [u8], octets: usize) {
 }
 
 fn header_field(random: &mut Random) -> Field {
-    match random.below(6) {
+    match random.below(7) {
         0 => layout::CLOCK,
         1 => layout::GEN_TID,
         2 => layout::RCR_MAX,
         3 => layout::AEC_MAX,
-        4 => layout::INTERVAL.moved(4 * random.place(layout::INTERVALS)),
+        4 => layout::TIDNEW_DUE,
+        5 => layout::INTERVAL.moved(4 * random.place(layout::INTERVALS)),
         _ => layout::CACHED.moved(2 * random.place(layout::PEERS)),
     }
 }
@@ -80,7 +81,8 @@ fn repeat_name(random: &mut Random, table: &mut [u8], records: usize) {
 
 fn spend_spare(random: &mut Random, table: &mut [u8], place: usize) {
     let of_record = layout::table_bytes(place) + random.of(&[layout::RECORD_SPARE, layout::EXIT - 1]);
-    let at = random.of(&[layout::SPARE, layout::CACHE - 1, of_record]);
+    let due = layout::TIDNEW_DUE.at;
+    let at = random.of(&[layout::SPARE, due - 1, due + 1, layout::CACHE - 1, of_record]);
     table[at] = random.of(&[0, 1, 255]);
 }
 
@@ -89,7 +91,7 @@ fn meet_gen_tid(random: &mut Random, table: &mut [u8], place: usize) {
     put_odd_record(random, table, place);
     let state = layout::STATE.of_record(place);
     if random.percent(80) {
-        state.set(table, 1 + random.below(4));
+        state.set(table, 1 + random.below(layout::INITIATOR_STATES));
     }
     layout::GEN_TID.set(table, layout::TID.of_record(place).get(table));
 }
@@ -104,13 +106,15 @@ fn free_with_one_octet(random: &mut Random, table: &mut [u8], place: usize) {
 fn put_odd_record(random: &mut Random, table: &mut [u8], place: usize) {
     let clock = layout::CLOCK.get(table);
     let exit = layout::table_bytes(place) + layout::EXIT;
+    let state = 1 + random.below(layout::STATES);
+    let flags = if state <= layout::INITIATOR_STATES { layout::FLAGS.most } else { layout::RESPONDER_FLAGS };
     let values = [
-        1 + random.below(layout::STATES),
+        state,
         random.below(4),
         random.of(&[0, 5, 32_760]) + random.below(8),
         random.below(layout::RCR_MAX.get(table) + 1),
         random.below(layout::AEC_MAX.get(table) + 1),
-        random.below(16),
+        random.below(flags + 1),
         random.of(&[0, 1, 3, 4, 128]),
         odd_deadline(random, clock),
         random.of(&[0, 1, 7, 1023, 1024]),

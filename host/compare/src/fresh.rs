@@ -27,11 +27,12 @@ fn limit(random: &mut Random) -> u64 {
     }
 }
 
-/// A first GenTID: low, in the middle, or just before it wraps.
+/// A first GenTID: low, in the middle, or just before it wraps, where the first request may be the one that brings it to 0.
 pub fn first_tid(random: &mut Random) -> u64 {
-    match random.below(4) {
+    match random.below(5) {
         0 => 32_767 - random.below(8),
-        1 => random.below(32_768),
+        1 => 32_767 - random.below(2),
+        2 => random.below(32_768),
         _ => random.below(8),
     }
 }

@@ -63,7 +63,9 @@ fn after_tid(random: &mut Random, kind: u8, pdu: &mut Vec<u8>) {
 fn invoke_octet(random: &mut Random) -> u8 {
     let version = if random.percent(92) { 0 } else { random.octet() & 0b1100_0000 };
     let class = random.of(&[0, 0, 1, 1, 1, 1, 2, 2, 2, 2, 2, 2, 2, 2, 2, 3]);
-    version | random.octet() & 0b0011_1100 | class
+    // Seldom enough that TIDs stay cached.
+    let tidnew = u8::from(random.percent(15)) << 5;
+    version | tidnew | random.octet() & 0b0001_1100 | class
 }
 
 /// An item, short or long, of an identity that is 1 (Info) mostly.

@@ -25,9 +25,10 @@ pub fn report(seed: u64, found: &Found) -> String {
 fn tell_table(table: &[u8], told: &mut String) {
     let places = table.len().saturating_sub(layout::HEADER) / layout::RECORD;
     let view = View::new(table, places);
-    let header = [layout::CLOCK, layout::GEN_TID, layout::RCR_MAX, layout::AEC_MAX].map(|field| view.get(field));
-    let [clock, gen_tid, rcr_max, aec_max] = header;
-    let _ = writeln!(told, "  table before: clock {clock}, GenTID {gen_tid}, RCR_MAX {rcr_max}, AEC_MAX {aec_max}");
+    let header = [layout::CLOCK, layout::GEN_TID, layout::RCR_MAX, layout::AEC_MAX, layout::TIDNEW_DUE];
+    let [clock, gen_tid, rcr_max, aec_max, due] = header.map(|field| view.get(field));
+    let _ = write!(told, "  table before: clock {clock}, GenTID {gen_tid}, TIDnew due {due}, ");
+    let _ = writeln!(told, "RCR_MAX {rcr_max}, AEC_MAX {aec_max}");
     let intervals: Vec<u64> = (0..layout::INTERVALS).map(|step| view.get(layout::INTERVAL.moved(4 * step))).collect();
     let _ = writeln!(told, "  A, W, R of class 1, R of class 2: {intervals:?}");
     for peer in 0..layout::PEERS as u64 {

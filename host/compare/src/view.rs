@@ -21,7 +21,7 @@ pub struct View<'a> {
 impl Live {
     /// 0 initiator, 1 responder.
     pub fn role(self) -> u64 {
-        u64::from(self.state > 4)
+        u64::from(self.state > layout::INITIATOR_STATES)
     }
 }
 

@@ -8,8 +8,10 @@ use std::time::Duration;
 use wtp::{Abort, Name, Role, Shown};
 
 const FIRST_TID: u16 = 1_000;
-/// Lower than those in use before, so that the gateway verifies it.
+/// Lower than those in use before: a gateway would verify it, and all after it, if the first Invoke hadn't TIDnew.
 const OLDER_TID: u16 = 900;
+/// The flag of an Invoke's fourth octet.
+const TIDNEW: u8 = 0x20;
 const SOON: Duration = Duration::from_secs(5);
 /// Longer than the slow page takes.
 const LATE: Duration = Duration::from_secs(14);
@@ -100,13 +102,18 @@ impl Browser<'_> {
     }
 
     fn verify_an_older_tid(&mut self) -> Result<(), String> {
-        say::out("Get /text with an older TID");
+        say::out("Get /text with an older TID, as after a restart");
         self.talk.start_anew(OLDER_TID)?;
         let (name, shown) = self.get("/text", SOON)?;
         let pdus = self.talk.take_seen();
-        let verified = pdus.iter().any(|seen| theirs(seen, &[0x1C, 0x1D], name));
-        self.check("the gateway asked for verification of the TID (TIDve)", verified);
+        self.check("its Invoke carries TIDnew", pdus.iter().any(|seen| ours(seen, &[0x0E], name) && has_tidnew(&seen.pdu)));
+        self.check("the gateway asked for verification of the TID (TIDve)", verified(&pdus, name));
         self.check("it was given one TIDok", pdus.iter().filter(|seen| ours(seen, &[0x1C], name)).count() == 1);
+        self.check_text(&shown);
+        let (name, shown) = self.get("/text", SOON)?;
+        let pdus = self.talk.take_seen();
+        self.check("the next Invoke is without TIDnew", !pdus.iter().any(|seen| seen.ours && has_tidnew(&seen.pdu)));
+        self.check("and it isn't verified any more", !verified(&pdus, name));
         self.check_text(&shown);
         Ok(())
     }
@@ -215,6 +222,15 @@ fn result(shown: &[Shown]) -> Option<&[u8]> {
 
 fn aborted(shown: &[Shown]) -> bool {
     shown.iter().any(|shown| matches!(shown, Shown::Abort { .. }))
+}
+
+fn verified(pdus: &[Seen], name: Name) -> bool {
+    pdus.iter().any(|seen| theirs(seen, &[0x1C, 0x1D], name))
+}
+
+/// Of an Invoke.
+fn has_tidnew(pdu: &[u8]) -> bool {
+    matches!(pdu, [0x0E | 0x0F, _, _, fourth, ..] if fourth & TIDNEW != 0)
 }
 
 fn ours(seen: &Seen, first: &[u8], name: Name) -> bool {

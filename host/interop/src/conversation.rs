@@ -153,7 +153,7 @@ mod tests {
         );
         let seen: Vec<_> = talk.take_seen().into_iter().map(|seen| (seen.ours, seen.pdu)).collect();
         let theirs = [(false, vec![0, 9]), (false, vec![0x16, 0x80, 5, b'!'])];
-        assert_eq!(seen, [&[(true, vec![0x0E, 0, 5, 2, b'?'])], &theirs[..], &[(true, vec![0x18, 0, 5])]].concat());
+        assert_eq!(seen, [&[(true, vec![0x0E, 0, 5, 0x22, b'?'])], &theirs[..], &[(true, vec![0x18, 0, 5])]].concat());
     }
 
     #[test]

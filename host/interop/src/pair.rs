@@ -25,6 +25,15 @@ impl Pair {
         Ok(Pair { initiator: table()?, responder: table()?, tid, now: 0 })
     }
 
+    /// The same, but the initiator's first Invoke has gone out before: that of the transaction is without TIDnew. `tid` isn't 0.
+    pub fn after_the_first(tid: u16) -> Result<Pair, String> {
+        let mut pair = Pair::new(tid.saturating_sub(1))?;
+        pair.request(1, false, b"")?;
+        pair.abort(Role::Initiator, 0)?;
+        pair.tid = tid;
+        Ok(pair)
+    }
+
     pub fn request(&mut self, class: u8, user_ack: bool, data: &[u8]) -> Step {
         sent(self.initiator.request(self.now, PEER, class, user_ack, data))
     }

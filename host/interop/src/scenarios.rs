@@ -36,9 +36,14 @@ pub fn every_pdu() -> Result<Vec<Sent>, String> {
 impl List {
     /// A pair whose TID is another one each time, over the whole range.
     fn pair(&mut self) -> Result<Pair, String> {
-        let pair = Pair::new(self.next_tid);
-        self.next_tid = (self.next_tid + 32_767 - 1_499) % 32_768;
-        pair
+        Pair::new(self.another_tid())
+    }
+
+    /// Only the first is 0.
+    fn another_tid(&mut self) -> u16 {
+        let tid = self.next_tid;
+        self.next_tid = (tid + 32_767 - 1_499) % 32_768;
+        tid
     }
 
     /// Notes a PDU, which must begin with `first`.
@@ -55,13 +60,21 @@ impl List {
     fn invokes(&mut self) -> Result<(), String> {
         for (class, user_ack) in [(0, false), (0, true), (1, false), (1, true), (2, false), (2, true)] {
             for count in DATA {
-                let mut pair = self.pair()?;
                 let meant = format!("Invoke class {class}, U/P {}, data {count}", u8::from(user_ack));
-                self.note(0x0E, &meant, pair.request(class, user_ack, &octets(count)))?;
-                if class > 0 {
-                    self.note(0x0F, format!("{meant}, repeat"), pair.timer(Initiator))?;
-                }
+                let first = self.pair()?;
+                self.invoke(first, class, user_ack, count, &meant)?;
+                let later = Pair::after_the_first(self.another_tid())?;
+                self.invoke(later, class, user_ack, count, &format!("{meant}, not the first"))?;
             }
+        }
+        Ok(())
+    }
+
+    /// An Invoke, and of class 1 and 2 its repeat.
+    fn invoke(&mut self, mut pair: Pair, class: u8, user_ack: bool, count: usize, meant: &str) -> Result<(), String> {
+        self.note(0x0E, meant, pair.request(class, user_ack, &octets(count)))?;
+        if class > 0 {
+            self.note(0x0F, format!("{meant}, repeat"), pair.timer(Initiator))?;
         }
         Ok(())
     }
@@ -220,6 +233,15 @@ mod tests {
         let both = [0x18, 0x19, 0x98, 0x99, 0x1C, 0x1D, 0x20, 0x21].iter().flat_map(|first| [(*first, 0), (*first, 1)]);
         let expected = both.chain([(0x0E, 0), (0x0F, 0), (0x16, 1), (0x17, 1)]).collect();
         assert_eq!(found, expected);
+    }
+
+    #[test]
+    fn every_class_is_sent_with_and_without_its_flags() {
+        let sent = every_pdu().unwrap();
+        let fourth = |first: u8| sent.iter().filter(move |sent| sent.pdu[0] == first).map(|sent| sent.pdu[3]);
+        let with_tidnew = [0x01, 0x11, 0x02, 0x12, 0x21, 0x31, 0x22, 0x32];
+        assert_eq!(fourth(0x0F).collect::<BTreeSet<u8>>(), with_tidnew.into_iter().collect());
+        assert_eq!(fourth(0x0E).collect::<BTreeSet<u8>>(), with_tidnew.into_iter().chain([0, 0x10]).collect());
     }
 
     #[test]

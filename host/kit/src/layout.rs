@@ -9,6 +9,8 @@ pub const LAST_TIME: u64 = 1_000_000_000_000;
 pub const LONGEST: u64 = 86_400_000;
 pub const PEERS: usize = 256;
 pub const STATES: u64 = 11;
+/// States 1 to this one are an initiator's.
+pub const INITIATOR_STATES: u64 = 4;
 
 /// A number in the table: its first octet, its octets and its range.
 #[derive(Clone, Copy)]
@@ -30,6 +32,8 @@ pub const AEC_MAX: Field = field(11, 1, 0, 8);
 /// A, W and the 18 R are fields like this one after the other.
 pub const INTERVAL: Field = field(12, 4, 1, LONGEST);
 pub const INTERVALS: usize = 20;
+/// Spare octets lie before it from `SPARE` on, and after it.
+pub const TIDNEW_DUE: Field = field(97, 1, 0, 1);
 /// The first of the cached TIDs.
 pub const CACHED: Field = field(CACHE, 2, 0, 32_768);
 
@@ -38,7 +42,9 @@ pub const PEER: Field = field(1, 1, 0, 255);
 pub const TID: Field = field(2, 2, 0, 32_767);
 pub const RCR: Field = field(4, 1, 0, 8);
 pub const AEC: Field = field(5, 1, 0, 8);
-pub const FLAGS: Field = field(6, 1, 0, 15);
+/// The highest of the flags, TIDnew, is an initiator's: a responder's are 0 to 15.
+pub const FLAGS: Field = field(6, 1, 0, 31);
+pub const RESPONDER_FLAGS: u64 = 15;
 pub const EXIT_LENGTH: Field = field(7, 1, 0, 128);
 pub const DEADLINE: Field = field(8, 8, 0, LAST_TIME + LONGEST);
 pub const MESSAGE: Field = field(16, 4, 0, 1024);

@@ -10,7 +10,8 @@ use rds::Side;
 use wtp::{Settings, Table};
 
 pub const DEFAULT_ADDRESS: &str = "127.0.0.1:9201";
-pub const VALUED: [&str; 7] = ["--records", "--retries", "--interval", "--loss", "--duplicate", "--delay", "--seed"];
+pub const VALUED: [&str; 8] =
+    ["--records", "--retries", "--interval", "--loss", "--duplicate", "--delay", "--seed", "--first-tid"];
 
 pub const FLAGS: [&str; 1] = ["--rds"];
 
@@ -23,7 +24,8 @@ pub const HELP: &str =
   --loss PERCENT       so many of the datagrams sent are lost, 0 to 100 (0)
   --duplicate PERCENT  so many are sent twice, 0 to 100 (0)
   --delay MS           each is delayed by a random time up to this, 0 to 60000: one may overtake another (0)
-  --seed N             seed of loss, duplication, delay and first TID (1)";
+  --seed N             seed of loss, duplication, delay and first TID (1)
+  --first-tid N        the TID of the first request, 0 to 32767 (drawn from the seed)";
 
 const AEC_MAX: u64 = 2;
 const TIDS: u64 = 32_768;
@@ -34,6 +36,7 @@ pub struct Common {
     interval: u64,
     faults: Faults,
     seed: u64,
+    first_tid: u16,
     rds: bool,
 }
 
@@ -44,12 +47,15 @@ impl Common {
             duplicate: given.number("--duplicate", 0, 0..=100)?,
             delay: given.number("--delay", 0, 0..=60_000)?,
         };
+        let seed = given.number("--seed", 1, 0..=u64::MAX)?;
+        let first_tid = given.number("--first-tid", Random::new(seed).below(TIDS), 0..=TIDS - 1)?;
         Ok(Common {
             records: given.number("--records", default_records, 1..=48)?,
             retries: given.number("--retries", 8, 0..=8)?,
             interval: given.number("--interval", 350, 1..=60_000)?,
             faults,
-            seed: given.number("--seed", 1, 0..=u64::MAX)?,
+            seed,
+            first_tid: u16::try_from(first_tid).unwrap_or_default(),
             rds: given.has("--rds"),
         })
     }
@@ -69,8 +75,7 @@ impl Common {
             r_class_1: rows,
             r_class_2: rows,
         };
-        let first_tid = u16::try_from(Random::new(self.seed).below(TIDS)).unwrap_or_default();
-        Table::fresh(self.records, &settings, first_tid).map_err(|why| format!("the settings were refused: {why}"))
+        Table::fresh(self.records, &settings, self.first_tid).map_err(|why| format!("the settings were refused: {why}"))
     }
 
     pub fn line(&self) -> Line {
@@ -107,10 +112,22 @@ mod tests {
     }
 
     #[test]
+    fn the_first_request_has_the_first_tid() {
+        let mut table = common(&["--first-tid", "32767"]).unwrap().table().unwrap();
+        let tids = [(); 2].map(|()| table.request(0, 0, 2, false, b"").unwrap().tid);
+        assert_eq!(tids, [Some(32_767), Some(0)]);
+    }
+
+    #[test]
     fn a_value_out_of_range_is_refused() {
-        for (switch, value) in
-            [("--records", "0"), ("--records", "49"), ("--retries", "9"), ("--interval", "0"), ("--loss", "101")]
-        {
+        for (switch, value) in [
+            ("--records", "0"),
+            ("--records", "49"),
+            ("--retries", "9"),
+            ("--interval", "0"),
+            ("--loss", "101"),
+            ("--first-tid", "32768"),
+        ] {
             assert!(common(&[switch, value]).is_err(), "{switch} {value}");
         }
     }

@@ -107,6 +107,8 @@ impl Desk {
             self.open.end(aborted.of);
         }
         if let Some(verified) = sent.filter(Head::is_tidve) {
+            let again = self.open.stage(verified.of) == Some(Stage::Verifying);
+            self.tally.verifications += u64::from(!again);
             self.open.set(verified.of, now, Stage::Verifying);
         }
     }

@@ -50,7 +50,12 @@ impl Post {
     /// A socket that hears only this address, which becomes peer 0.
     pub fn towards(address: SocketAddr, line: Line) -> Result<Post, String> {
         let any = if address.is_ipv4() { SocketAddr::from(([0; 4], 0)) } else { SocketAddr::from(([0; 16], 0)) };
-        let mut post = Post::bind(any, line)?;
+        Post::between(any, address, line)
+    }
+
+    /// The same, with an address of its own: whoever is at the other end knows it again by that.
+    pub fn between(own: SocketAddr, address: SocketAddr, line: Line) -> Result<Post, String> {
+        let mut post = Post::bind(own, line)?;
         post.socket.connect(address).map_err(|why| format!("{address} can't be reached: {why}"))?;
         post.peers.number(address);
         Ok(post)

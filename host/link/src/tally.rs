@@ -10,6 +10,8 @@ pub struct Tally {
     pub aborts: u64,
     pub unanswered: u64,
     pub unheard: u64,
+    /// Invokes whose TID had to be verified first.
+    pub verifications: u64,
     pub confirmed: u64,
     pub aborted: u64,
 }
@@ -19,6 +21,7 @@ impl fmt::Display for Tally {
         write!(f, "{} Invokes shown: {} answered with a value, ", self.asked, self.values)?;
         write!(f, "{} with an empty result, {} with an abort, ", self.empty_results, self.aborts)?;
         writeln!(f, "{} not answered; {} thrown away unheard", self.unanswered, self.unheard)?;
-        write!(f, "{} results confirmed, {} transactions aborted by the provider or the reader", self.confirmed, self.aborted)
+        write!(f, "{} verifications begun, {} results confirmed, ", self.verifications, self.confirmed)?;
+        write!(f, "{} transactions aborted by the provider or the reader", self.aborted)
     }
 }

@@ -34,6 +34,7 @@ Then comes a summary. Ctrl-C ends the waiting: what has no outcome yet is shown 
 
 Switches, with their defaults:
   --gateway ADDRESS    the gateway's address and port (127.0.0.1:9201)
+  --from ADDRESS       the reader's own address and port: a gateway knows it by these again after a restart (a free port)
   --patience MS        how long a sampler may take, 1 to 86400000 (3 times (retries + 1) intervals)
   --csv FILE           write the outcomes to FILE too, whole or not at all, in place of an earlier one (no file); its columns
                        are sampler,site,outcome,value,detail, and the value is filled for VALUE alone
@@ -47,7 +48,7 @@ also where the CSV file can't be written.
 Example: reader --gateway 127.0.0.1:9201 --loss 20 --duplicate 20 --delay 60 host/examples/samplers.csv";
 
 const RECORDS: u64 = 8;
-const VALUED: [&str; 3] = ["--gateway", "--patience", "--csv"];
+const VALUED: [&str; 4] = ["--gateway", "--from", "--patience", "--csv"];
 
 struct Reader {
     post: Post,
@@ -74,7 +75,10 @@ fn prepare(given: &Given) -> Result<Reader, String> {
     let manner = Manner { user_ack: !given.has("--no-user-ack"), patience, linger };
     let asked = samplers.iter().map(|scanned| scanned.sampler.clone()).collect();
     let modem = common.modem(Round::new(common.table()?, asked, manner), Side::Ue);
-    let post = Post::towards(address, common.line())?;
+    let post = match given.text("--from")? {
+        Some(own) => Post::between(post::address(own)?, address, common.line())?,
+        None => Post::towards(address, common.line())?,
+    };
     let csv = given.text("--csv")?.map(|csv| draft(csv, file)).transpose()?;
     Ok(Reader { post, modem, samplers, progress: Progress::new(), csv })
 }

@@ -1,13 +1,16 @@
-//! A table in words: clock, GenTID, cached TIDs, live records.
+//! A table in words: clock, GenTID, whether TIDnew is due, cached TIDs, live records.
 
 use crate::changes::{records, state_name};
 use crate::octets::text;
-use kit::layout::{AEC, CACHED, CLOCK, DEADLINE, EXIT, EXIT_LENGTH, FLAGS, GEN_TID, MESSAGE, PEER, PEERS, RCR, STATE, TID};
+use kit::layout::{
+    AEC, CACHED, CLOCK, DEADLINE, EXIT, EXIT_LENGTH, FLAGS, GEN_TID, MESSAGE, PEER, PEERS, RCR, STATE, TID, TIDNEW_DUE,
+};
 
-const MARKS: [&str; 4] = [" user-ack", " HoldOn", " TIDok-sent", " hold-on-sent"];
+const MARKS: [&str; 5] = [" user-ack", " HoldOn", " TIDok-sent", " hold-on-sent", " TIDnew"];
 
 pub fn look(table: &[u8]) -> String {
-    let mut told = format!(": clock {}, next TID {}", CLOCK.get(table), GEN_TID.get(table));
+    let due = if TIDNEW_DUE.get(table) == 1 { ", TIDnew due" } else { "" };
+    let mut told = format!(": clock {}, next TID {}{due}", CLOCK.get(table), GEN_TID.get(table));
     for peer in 0..PEERS {
         if let Some(last) = CACHED.moved(2 * peer).get(table).checked_sub(1) {
             told += &format!(", last of {peer} is {last}");

@@ -10,7 +10,7 @@ use wtp::ffi::{self, Lent};
 const RECORDS: usize = 2;
 
 /// Where the fields of docs/TABLE.md start, some of them taken together.
-const OF_HEADER: [usize; 7] = [0, 8, 10, 12, 20, layout::SPARE, layout::CACHE];
+const OF_HEADER: [usize; 9] = [0, 8, 10, 12, 20, layout::SPARE, layout::TIDNEW_DUE.at, layout::TIDNEW_DUE.at + 1, layout::CACHE];
 const OF_RECORD: [usize; 9] = [0, 1, 2, 4, 6, 8, 16, layout::RECORD_SPARE, layout::EXIT];
 
 /// A call that judges the table, and its number; it takes a time or it doesn't.
@@ -34,6 +34,13 @@ fn fresh() -> Vec<u8> {
 fn with_two_live(mut table: Vec<u8>) -> Vec<u8> {
     (0..RECORDS).for_each(|place| layout::STATE.of_record(place).set(&mut table, 2));
     layout::PEER.of_record(1).set(&mut table, 1);
+    table
+}
+
+/// The first of two live records has sent its Invoke with TIDnew, the second is a responder's in INVOKE RESP WAIT of class 2.
+fn of_either_role(mut table: Vec<u8>) -> Vec<u8> {
+    layout::FLAGS.of_record(0).set(&mut table, 16);
+    layout::STATE.of_record(1).set(&mut table, 8);
     table
 }
 
@@ -61,11 +68,16 @@ fn told(judge: Judge, table: &[u8]) -> String {
     .collect()
 }
 
-fn both_told(judge: Judge) -> String {
-    let table = fresh();
-    let free = told(judge, &table);
-    let live = told(judge, &with_two_live(table));
-    format!("a fresh table of two records\n{free}the same with both records live\n{live}")
+fn all_told(judge: Judge) -> String {
+    let free = fresh();
+    let live = with_two_live(free.clone());
+    let either = of_either_role(live.clone());
+    let tables = [
+        ("a fresh table of two records", free),
+        ("the same with both records live", live),
+        ("an initiator whose Invoke carries TIDnew, and a responder", either),
+    ];
+    tables.iter().map(|(title, table)| format!("{title}\n{}", told(judge, table))).collect()
 }
 
 #[test]
@@ -80,10 +92,10 @@ fn damage_that_is_let_through_is_not_counted() {
 
 #[test]
 fn the_timer_refuses_the_damage_that_document_01_says() {
-    compare(&both_told(ffi::timer), "damage/expected.txt");
+    compare(&all_told(ffi::timer), "damage/expected.txt");
 }
 
 #[test]
 fn no_deadline_is_told_of_a_damaged_table() {
-    compare(&both_told(|lent, _| ffi::deadline(lent.table, lent.answer)), "damage/expected.txt");
+    compare(&all_told(|lent, _| ffi::deadline(lent.table, lent.answer)), "damage/expected.txt");
 }

@@ -3,7 +3,7 @@
 use crate::bounds;
 use crate::octets::put_at;
 use crate::record;
-use crate::table::{self, AEC_MAX, GEN_TID, HEADER, INTERVALS, RCR_MAX};
+use crate::table::{self, AEC_MAX, GEN_TID, HEADER, INTERVALS, RCR_MAX, TIDNEW_DUE};
 use crate::words::SETTINGS;
 
 /// Words of the settings: two maxima, then the intervals, then zeros.
@@ -31,6 +31,7 @@ pub fn fresh(table: &mut [u8], settings: &[u64], first_tid: u64) -> u64 {
     for (interval, octets) in settings[FIRST_INTERVAL..FIRST_ZERO].iter().zip(table[INTERVALS..].chunks_exact_mut(4)) {
         octets.copy_from_slice(&(*interval as u32).to_le_bytes());
     }
+    table[TIDNEW_DUE] = 1;
     0
 }
 

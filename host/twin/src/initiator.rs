@@ -81,7 +81,7 @@ fn send_again(mut at: Transaction, class: Class) -> Outcome {
     if tidok {
         at.send_tid_test(true);
     } else {
-        let header = sending::invoke(true, at.name(), class as u8, at.record.user_ack);
+        let header = sending::invoke(true, at.name(), class as u8, at.record.user_ack, at.record.tidnew);
         at.engine.send_kept(&header, at.place, at.record.message_length);
     }
     at.count_again(class);

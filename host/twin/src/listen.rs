@@ -79,13 +79,18 @@ fn test_tid(engine: &mut Engine, name: Name, class: Class, first: &First) -> Row
     };
     let state = State::Responder(ResponderState::TidokWait(class));
     let record = Record::new(state, name.peer, name.tid, first.invoke.user_ack);
-    let row = match engine.table.last_tid(name.peer) {
-        Some(last) if is_valid(name.tid, last) => {
+    let row = match (engine.table.last_tid(name.peer), first.invoke.tidnew) {
+        (Some(last), false) if is_valid(name.tid, last) => {
             return valid(Transaction { engine, place, record }, class, first);
         }
-        Some(_) => Row::InvokeVerified,
-        None => Row::InvokeNothingCached,
+        (Some(_), false) => Row::InvokeVerified,
+        (None, false) => Row::InvokeNothingCached,
+        (Some(_), true) => Row::InvokeRestarted,
+        (None, true) => Row::InvokeRestartedNothingCached,
     };
+    if first.invoke.tidnew {
+        engine.table.drop_last_tid(name.peer);
+    }
     verify(engine, place, record, first);
     row
 }

@@ -13,6 +13,16 @@ pub enum Role {
     Responder = 1,
 }
 
+impl Role {
+    /// All flags that a record of this role may have.
+    fn flags_most(self) -> u8 {
+        match self {
+            Role::Initiator => 31,
+            Role::Responder => 15,
+        }
+    }
+}
+
 #[derive(Clone, Copy, Debug, PartialEq, Eq)]
 pub enum Class {
     One = 1,
@@ -111,6 +121,8 @@ pub struct Record {
     pub hold_on: bool,
     pub tidok_sent: bool,
     pub hold_on_sent: bool,
+    /// The Invoke carries TIDnew; a responder's record never has it.
+    pub tidnew: bool,
     pub exit_length: u8,
     pub deadline: Option<u64>,
     pub message_length: u32,
@@ -128,6 +140,7 @@ impl Record {
             hold_on: false,
             tidok_sent: false,
             hold_on_sent: false,
+            tidnew: false,
             exit_length: 0,
             deadline: None,
             message_length: 0,
@@ -152,6 +165,7 @@ impl Record {
             hold_on: flags & 2 != 0,
             tidok_sent: flags & 4 != 0,
             hold_on_sent: flags & 8 != 0,
+            tidnew: flags & 16 != 0,
             exit_length: octets[7],
             deadline: (deadline != 0).then_some(deadline),
             message_length: u32::from_le_bytes(array_at(octets, 16)),
@@ -168,7 +182,8 @@ impl Record {
         octets[6] = u8::from(self.user_ack)
             | u8::from(self.hold_on) << 1
             | u8::from(self.tidok_sent) << 2
-            | u8::from(self.hold_on_sent) << 3;
+            | u8::from(self.hold_on_sent) << 3
+            | u8::from(self.tidnew) << 4;
         octets[7] = self.exit_length;
         put_at(octets, 8, &self.deadline.unwrap_or(0).to_le_bytes());
         put_at(octets, 16, &self.message_length.to_le_bytes());
@@ -179,7 +194,7 @@ impl Record {
         self.tid <= bounds::TID
             && self.rcr <= rcr_max
             && self.aec <= aec_max
-            && octets[6] <= 15
+            && octets[6] <= self.state.role().flags_most()
             && usize::from(self.exit_length) <= bounds::EXIT
             && self.deadline.unwrap_or(0) <= bounds::DEADLINE
             && self.message_length <= bounds::CELL as u32

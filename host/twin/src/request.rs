@@ -20,17 +20,28 @@ fn carry_out(lent: Lent, now: u64, peer: u64, class: u64, user_ack: bool, data: 
         return Err(Said { number: 6, row: Row::Request6 });
     }
     let name = Name { role: Role::Initiator, peer, tid };
-    let row = match class {
-        None => Row::RequestClass0,
-        Some(class) => {
-            let place = engine.table.free_place().ok_or(Said { number: 7, row: Row::Request7 })?;
-            open_record(&mut engine, place, name, class, user_ack, data)
-        }
-    };
-    engine.send_with(&sending::invoke(false, name, class.map_or(0, |class| class as u8), user_ack), data);
-    engine.table.set_gen_tid(tid.wrapping_add(1) & bounds::TID);
+    let tidnew = class.is_some() && engine.table.tidnew_due();
+    if let Some(class) = class {
+        let place = engine.table.free_place().ok_or(Said { number: 7, row: Row::Request7 })?;
+        let state = State::Initiator(InitiatorState::ResultWait(class));
+        let record = Record { tidnew, ..Record::new(state, peer, tid, user_ack) };
+        open_record(&mut engine, place, class, record, data);
+        engine.table.set_tidnew_due(false);
+    }
+    engine.send_with(&sending::invoke(false, name, class.map_or(0, |class| class as u8), user_ack, tidnew), data);
+    let wraps = count_up(&mut engine, tid);
     engine.answer.requested(tid);
-    Ok(engine.accept(row))
+    Ok(engine.accept(reached(class, tidnew, wraps)))
+}
+
+/// GenTID of the next request; where that is 0 again, TIDnew is due, after this request's own.
+fn count_up(engine: &mut Engine, tid: u16) -> bool {
+    let next = tid.wrapping_add(1) & bounds::TID;
+    engine.table.set_gen_tid(next);
+    if next == 0 {
+        engine.table.set_tidnew_due(true);
+    }
+    next == 0
 }
 
 /// `Some(None)` is class 0, which opens no record.
@@ -43,15 +54,24 @@ fn wanted_class(class: u64) -> Option<Option<Class>> {
     }
 }
 
-fn open_record(engine: &mut Engine, place: usize, name: Name, class: Class, user_ack: bool, data: &[u8]) -> Row {
-    let state = State::Initiator(InitiatorState::ResultWait(class));
-    let mut record = Record::new(state, name.peer, name.tid, user_ack);
+fn open_record(engine: &mut Engine, place: usize, class: Class, mut record: Record, data: &[u8]) {
     record.deadline = Some(engine.now + engine.table.interval_r(class, 0));
     record.message_length = data.len() as u32;
     engine.table.put(place, &record);
     engine.keep(place, data);
-    match class {
-        Class::One => Row::RequestClass1,
-        Class::Two => Row::RequestClass2,
+}
+
+fn reached(class: Option<Class>, tidnew: bool, wraps: bool) -> Row {
+    match (class, tidnew, wraps) {
+        (None, _, false) => Row::RequestClass0,
+        (None, _, true) => Row::RequestClass0Wraps,
+        (Some(Class::One), false, false) => Row::RequestClass1,
+        (Some(Class::One), false, true) => Row::RequestClass1Wraps,
+        (Some(Class::One), true, false) => Row::RequestClass1Tidnew,
+        (Some(Class::One), true, true) => Row::RequestClass1TidnewWraps,
+        (Some(Class::Two), false, false) => Row::RequestClass2,
+        (Some(Class::Two), false, true) => Row::RequestClass2Wraps,
+        (Some(Class::Two), true, false) => Row::RequestClass2Tidnew,
+        (Some(Class::Two), true, true) => Row::RequestClass2TidnewWraps,
     }
 }

@@ -16,10 +16,10 @@ pub const NORESPONSE: u8 = 8;
 pub const INFO_ITEM: u8 = 0x08;
 pub const LONG_FORM: u8 = 0x04;
 
-/// An Invoke of a class 0 to 2, a whole message of version 0 with TIDnew clear.
-pub fn invoke(repeat: bool, name: Name, class: u8, user_ack: bool) -> [u8; 4] {
+/// An Invoke of a class 0 to 2, a whole message of version 0.
+pub fn invoke(repeat: bool, name: Name, class: u8, user_ack: bool, tidnew: bool) -> [u8; 4] {
     let [high, low] = name.send_tid().to_be_bytes();
-    [0x0E | u8::from(repeat), high, low, u8::from(user_ack) << 4 | class]
+    [0x0E | u8::from(repeat), high, low, u8::from(tidnew) << 5 | u8::from(user_ack) << 4 | class]
 }
 
 pub fn result(repeat: bool, name: Name) -> [u8; 3] {

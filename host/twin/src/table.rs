@@ -11,7 +11,9 @@ pub const RCR_MAX: usize = 10;
 pub const AEC_MAX: usize = 11;
 /// A, W, nine R of class 1 and nine R of class 2, four octets each.
 pub const INTERVALS: usize = 12;
+/// Spare octets lie on either side of `TIDNEW_DUE`.
 const SPARE: usize = 92;
+pub const TIDNEW_DUE: usize = 97;
 const CACHE: usize = 112;
 
 /// Over octets that may be changed, or over octets that may only be read.
@@ -41,7 +43,9 @@ impl<O: Deref<Target = [u8]>> Table<O> {
             && self.rcr_max() <= bounds::COUNTER
             && self.aec_max() <= bounds::COUNTER
             && intervals.all(|interval| (1..=bounds::INTERVAL).contains(&interval))
-            && self.octets[SPARE..CACHE] == [0; CACHE - SPARE]
+            && self.octets[SPARE..TIDNEW_DUE] == [0; TIDNEW_DUE - SPARE]
+            && self.octets[TIDNEW_DUE] <= 1
+            && self.octets[TIDNEW_DUE + 1..CACHE] == [0; CACHE - TIDNEW_DUE - 1]
             && cached.fold(0, u16::max) <= bounds::TID + 1
     }
 
@@ -104,6 +108,11 @@ impl<O: Deref<Target = [u8]>> Table<O> {
         u16::from_le_bytes(array_at(&self.octets, GEN_TID))
     }
 
+    /// Whether the next Invoke of class 1 or 2 carries TIDnew.
+    pub fn tidnew_due(&self) -> bool {
+        self.octets[TIDNEW_DUE] != 0
+    }
+
     pub fn rcr_max(&self) -> u8 {
         self.octets[RCR_MAX]
     }
@@ -163,8 +172,16 @@ impl<O: DerefMut<Target = [u8]>> Table<O> {
         put_at(&mut self.octets, GEN_TID, &tid.to_le_bytes());
     }
 
+    pub fn set_tidnew_due(&mut self, due: bool) {
+        self.octets[TIDNEW_DUE] = due.into();
+    }
+
     pub fn set_last_tid(&mut self, peer: u8, tid: u16) {
         put_at(&mut self.octets, CACHE + 2 * usize::from(peer), &(tid + 1).to_le_bytes());
+    }
+
+    pub fn drop_last_tid(&mut self, peer: u8) {
+        put_at(&mut self.octets, CACHE + 2 * usize::from(peer), &[0; 2]);
     }
 }
 

@@ -165,11 +165,11 @@ fn class_1_is_confirmed_and_class_0_only_shown() {
 fn the_timer_resends_and_then_aborts() {
     let mut reader = table(1);
     let first = reader.request(0, PEER, 2, false, b"").unwrap();
-    assert_eq!(first.sent.as_deref(), Some(&[0x0E, 0x00, 0x05, 0x02][..]));
+    assert_eq!(first.sent.as_deref(), Some(&[0x0E, 0x00, 0x05, 0x22][..]));
     let nothing = Taken { sent: None, shown: vec![], tid: None, fired: None };
     assert_eq!(reader.timer(4_999).unwrap(), nothing);
     for now in [5_000, 10_000] {
-        let sent = Some(vec![0x0F, 0x00, 0x05, 0x02]);
+        let sent = Some(vec![0x0F, 0x00, 0x05, 0x22]);
         let again = Taken { sent, fired: Some(initiator(5)), ..nothing.clone() };
         assert_eq!(reader.timer(now).unwrap(), again);
         assert_eq!(reader.timer(now).unwrap(), nothing);

@@ -108,6 +108,20 @@ fn an_interrupted_round_keeps_what_it_knows_and_aborts_the_rest() {
 }
 
 #[test]
+fn a_reader_that_restarts_with_lower_tids_is_verified_once_and_so_is_one_whose_tids_came_round() {
+    let entries: Vec<_> = (0..20).map(value).collect();
+    let mut world = World::new(&entries, 1, MANNER, NO_FAULTS, NO_FAULTS);
+    world.run();
+    assert_eq!(world.desk.tally().verifications, 2, "the first request, and the first after GenTID came back to 0");
+    for (restarts, first_tid) in [(1, 5), (2, 1), (3, 32_000)] {
+        world.restart(first_tid);
+        let seen = world.run();
+        assert!(seen.iter().eq(entries.iter().map(expected).collect::<Vec<_>>().iter()), "{seen:?}");
+        assert_eq!(world.desk.tally().verifications, 2 + restarts, "first TID {first_tid}");
+    }
+}
+
+#[test]
 fn every_result_is_confirmed_to_the_gateways_user() {
     let entries: Vec<_> = (0..200).map(|number| if number % 2 == 0 { value(number) } else { Entry::Empty }).collect();
     let mut world = World::new(&entries, 48, MANNER, NO_FAULTS, NO_FAULTS);

@@ -29,10 +29,15 @@ pub struct World {
     to_round: Line,
 }
 
+/// Its eighth request is the one that brings GenTID back to 0.
 pub fn table(records: u64) -> Table {
+    table_from(32_760, records)
+}
+
+pub fn table_from(first_tid: u16, records: u64) -> Table {
     let rows = [INTERVAL; 9];
     let settings = Settings { rcr_max: RCR_MAX, aec_max: 2, a: INTERVAL, w: W, r_class_1: rows, r_class_2: rows };
-    Table::fresh(records, &settings, 32_760).unwrap()
+    Table::fresh(records, &settings, first_tid).unwrap()
 }
 
 pub fn sampler(number: usize) -> Sampler {
@@ -60,6 +65,13 @@ impl World {
         };
         world.tick_round();
         world
+    }
+
+    /// The reader is switched off and on again, and asks for all samplers anew, one after the other.
+    pub fn restart(&mut self, first_tid: u16) {
+        let samplers = (0..self.round.outcomes().len()).map(sampler).collect();
+        self.round = Round::new(table_from(first_tid, 1), samplers, MANNER);
+        self.tick_round();
     }
 
     /// Sleeps until an end wakes up by itself or a packet comes; only an end that woke up is looked at.

@@ -8,9 +8,19 @@ const PEER: u64 = 9;
 #[test]
 fn a_class_2_invoke_and_its_repeat_have_the_octets_of_the_paper() {
     let mut end = End::new(1, 5);
+    assert_eq!(end.request(0, PEER, 2, 0, &[]).row, Row::RequestClass2Tidnew);
+    assert_eq!(end.sent(), [0x0E, 0x00, 0x05, 0x22]);
+    assert_eq!(end.timer(interval_r(2, 0)).row, Row::IResultWaitTimerInvoke);
+    assert_eq!(end.sent(), [0x0F, 0x00, 0x05, 0x22]);
+}
+
+#[test]
+fn a_later_class_2_invoke_and_its_repeat_are_without_tidnew() {
+    let mut end = End::new(2, 4);
+    end.request(0, PEER, 1, 0, &[]);
     assert_eq!(end.request(0, PEER, 2, 0, &[]).row, Row::RequestClass2);
     assert_eq!(end.sent(), [0x0E, 0x00, 0x05, 0x02]);
-    assert_eq!(end.timer(interval_r(2, 0)).row, Row::IResultWaitTimerInvoke);
+    assert_eq!(end.fire(interval_r(2, 0), [INITIATOR, PEER, 5]).row, Row::IResultWaitTimerInvoke);
     assert_eq!(end.sent(), [0x0F, 0x00, 0x05, 0x02]);
 }
 

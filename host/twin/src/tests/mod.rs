@@ -6,6 +6,7 @@ mod reader_and_writer;
 mod refusals;
 mod rows;
 mod tables;
+mod tidnew;
 mod timer;
 mod transactions;
 
@@ -69,6 +70,16 @@ impl End {
         let mut table = vec![0xA5; crate::table_bytes(records) as usize];
         assert_eq!(crate::fresh(&mut table, settings, first_tid), 0);
         End { table, store: vec![0x5A; 1024 * records as usize], out: vec![0xEE; 1030], answer: vec![7; 34] }
+    }
+
+    /// Settings of the examples of document 02's reading: A 100, W 200, R of class 1 50, 60, .., of class 2 150, 160, ..
+    pub fn of_the_reading(records: u64, first_tid: u64) -> End {
+        let mut settings = settings(2, 1);
+        for rcr in 0..9 {
+            settings[4 + rcr] = 50 + 10 * rcr as u64;
+            settings[13 + rcr] = 150 + 10 * rcr as u64;
+        }
+        End::with(records, first_tid, &settings)
     }
 
     fn call(&mut self, act: impl FnOnce(Lent) -> Said) -> Said {
@@ -146,6 +157,12 @@ impl End {
             length: words[10] as usize,
         };
         indications.map(read).collect()
+    }
+
+    /// The same end once its first Invoke of class 1 or 2 has gone out: TIDnew isn't due any more.
+    pub fn after_its_first(mut self) -> End {
+        self.table[97] = 0;
+        self
     }
 
     /// Caches `tid` as LastTID of a peer.

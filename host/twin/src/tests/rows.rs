@@ -15,7 +15,11 @@ fn ends_in(state: u8) -> Vec<End> {
         let mut end = End::new(1, 0);
         let record = end.record(0);
         record.copy_from_slice(&live(state));
-        record[6] = if flags { 15 } else { 0 };
+        record[6] = match (flags, state) {
+            (false, _) => 0,
+            (true, 1..=4) => 31,
+            (true, _) => 15,
+        };
         record[8] = 1;
         if counters {
             record[4..6].copy_from_slice(&[2, 1]);
@@ -39,10 +43,8 @@ fn pdus() -> Vec<Vec<u8>> {
         for first in [0x10, 0x11, 0x12, 0x13, 0x18, 0x19, 0x1C, 0x1D] {
             pdus.push(vec![first, top, 5]);
         }
-        for (first, fourth) in
-            [(0x0E, 0x02), (0x0F, 0x02), (0x0C, 0x02), (0x0E, 0x42), (0x0E, 0), (0x0C, 0), (0x0E, 0x40), (0x0E, 3)]
-        {
-            pdus.push(vec![first, top, 5, fourth]);
+        for fourth in [0x02, 0x22, 0x42, 0, 0x40, 3] {
+            pdus.extend([0x0C, 0x0E, 0x0F].map(|first| vec![first, top, 5, fourth]));
         }
     }
     pdus
@@ -79,11 +81,18 @@ fn reach_without_record(reached: &mut BTreeSet<Row>) {
             pdu.resize(4 + 1025, 0);
             reached.insert(end.clone().receive(1, PEER, &pdu).row);
         }
-        for class in 0..3 {
-            reached.insert(end.clone().request(1, PEER, class, 0, &[]).row);
-        }
+        reach_requests(&end, reached);
         reached.insert(end.clone().timer(1).row);
         reached.insert(crate::deadline(&end.table, &mut [0; 5]).row);
+    }
+}
+
+fn reach_requests(end: &End, reached: &mut BTreeSet<Row>) {
+    for (gen_tid, due) in [(7_u16, 0), (7, 1), (32_767, 0), (32_767, 1)] {
+        let mut end = end.clone();
+        end.table[8..10].copy_from_slice(&gen_tid.to_le_bytes());
+        end.table[97] = due;
+        reached.extend((0..3).map(|class| end.clone().request(1, PEER, class, 0, &[]).row));
     }
 }
 

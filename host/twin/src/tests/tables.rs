@@ -29,7 +29,8 @@ fn a_fresh_table_is_made_of_any_old_contents() {
     assert_eq!(end.table[..12], [0, 0, 0, 0, 0, 0, 0, 0, 0x34, 0x12, 8, 7]);
     assert_eq!(end.table[12..24], [100, 0, 0, 0, 200, 0, 0, 0, 0xE8, 3, 0, 0]);
     assert_eq!(end.table[56..60], [0xD0, 7, 0, 0]);
-    assert!(end.table[92..].iter().all(|octet| *octet == 0));
+    assert_eq!(end.table[97], 1);
+    assert!(end.table[92..].iter().enumerate().all(|(at, octet)| *octet == 0 || at == 5));
     assert_eq!(end.timer(0).row, Row::TimerNoneDue);
 }
 
@@ -83,7 +84,7 @@ fn a_wrong_size_is_refused_with_1() {
 
 #[test]
 fn a_header_field_out_of_range_is_refused_with_1() {
-    let bad: [(usize, &[u8]); 13] = [
+    let bad: [(usize, &[u8]); 17] = [
         (0, &1_000_000_000_001_u64.to_le_bytes()),
         (8, &32_768_u16.to_le_bytes()),
         (10, &[9]),
@@ -94,6 +95,10 @@ fn a_header_field_out_of_range_is_refused_with_1() {
         (52, &[0; 4]),
         (88, &86_400_001_u32.to_le_bytes()),
         (92, &[1]),
+        (96, &[1]),
+        (97, &[2]),
+        (97, &[255]),
+        (98, &[1]),
         (111, &[1]),
         (112, &32_769_u16.to_le_bytes()),
         (622, &[0xFF, 0xFF]),
@@ -113,7 +118,7 @@ fn a_record_field_out_of_range_is_refused_with_1() {
         (2, &32_768_u16.to_le_bytes()),
         (4, &[3]),
         (5, &[2]),
-        (6, &[16]),
+        (6, &[32]),
         (7, &[129]),
         (8, &1_000_086_400_001_u64.to_le_bytes()),
         (16, &1025_u32.to_le_bytes()),
@@ -128,11 +133,20 @@ fn a_record_field_out_of_range_is_refused_with_1() {
 }
 
 #[test]
+fn the_flag_tidnew_is_in_range_for_an_initiator_alone() {
+    for state in 1..=11 {
+        let mut record = live(state);
+        record[6] = 16;
+        assert_eq!(end_with(&[record]).timer(0).number, u64::from(state > 4), "state {state}");
+    }
+}
+
+#[test]
 fn the_largest_fields_are_well_formed() {
     for state in 1..=11 {
         let mut end = end_with(&[live(state)]);
         let record = end.record(0);
-        record[1..8].copy_from_slice(&[255, 255, 127, 2, 1, 15, 128]);
+        record[1..8].copy_from_slice(&[255, 255, 127, 2, 1, if state <= 4 { 31 } else { 15 }, 128]);
         record[8..16].copy_from_slice(&1_000_086_400_000_u64.to_le_bytes());
         record[16..20].copy_from_slice(&1024_u32.to_le_bytes());
         end.cache(255, 32_767);

@@ -4,16 +4,6 @@ use super::tables::live;
 use super::*;
 use crate::Row;
 
-/// Settings of the examples of document 02's reading: A 100, W 200, R of class 1 50, 60, .., of class 2 150, 160, ..
-fn example() -> End {
-    let mut settings = settings(2, 1);
-    for rcr in 0..9 {
-        settings[4 + rcr] = 50 + 10 * rcr as u64;
-        settings[13 + rcr] = 150 + 10 * rcr as u64;
-    }
-    End::with(3, 5, &settings)
-}
-
 /// A record of this state whose deadline is 1, at the clock 0.
 fn due_in(state: u8) -> End {
     let mut end = End::new(1, 0);
@@ -24,7 +14,7 @@ fn due_in(state: u8) -> End {
 
 #[test]
 fn the_example_of_the_reading() {
-    let mut end = example();
+    let mut end = End::of_the_reading(3, 5);
     end.request(1_000, 7, 2, 0, &[]);
     end.request(1_000, 8, 1, 0, &[1]);
     end.request(1_000, 9, 1, 0, &[2]);
@@ -35,7 +25,7 @@ fn the_example_of_the_reading() {
     assert_eq!(end.fire(1_050, [INITIATOR, 9, 7]).number, 0);
     assert_eq!((end.sent(), end.answer[3], end.answer[28..31].to_vec()), (vec![0x0F, 0, 7, 1, 2], 1, vec![0, 9, 7]));
     assert_eq!(end.fire(1_160, [INITIATOR, 7, 5]).number, 0);
-    assert_eq!(end.sent(), [0x0F, 0, 5, 2]);
+    assert_eq!(end.sent(), [0x0F, 0, 5, 0x22]);
     assert_eq!(end.timer(1_160).number, 0);
     assert_eq!((end.sent(), end.answer[28..31].to_vec()), (vec![0x0F, 0, 6, 1, 1], vec![0, 8, 6]));
     assert_eq!(end.deadline(), Ok([1, 1_110, 0, 9, 7]));
@@ -65,7 +55,7 @@ fn a_damaged_table_or_too_few_words_are_refused() {
     let mut end = due_in(2);
     assert_eq!(crate::deadline(&end.table[1..], &mut [7; 5]).number, 1);
     assert_eq!(crate::deadline(&end.table, &mut [7; 4]).number, 1);
-    end.record(0)[6] = 16;
+    end.record(0)[6] = 32;
     assert_eq!(end.deadline(), Err(1));
 }
 

@@ -10,7 +10,7 @@ const READER: u64 = 3;
 #[test]
 fn a_class_0_message_is_shown_and_leaves_nothing() {
     let (mut reader, mut gateway) = (End::new(1, 32_767), End::new(1, 0));
-    assert_eq!(reader.request(5, GATEWAY, 0, 1, b"air").row, Row::RequestClass0);
+    assert_eq!(reader.request(5, GATEWAY, 0, 1, b"air").row, Row::RequestClass0Wraps);
     assert_eq!(reader.answer[2], 32_767);
     assert_eq!(reader.table[8..10], [0, 0]);
     let pdu = reader.sent();
@@ -24,7 +24,7 @@ fn a_class_0_message_is_shown_and_leaves_nothing() {
 fn a_class_1_transaction_is_verified_shown_and_confirmed_with_exit_information() {
     let (mut reader, mut gateway) = (End::new(2, 5), End::new(2, 0));
     reader.request(0, GATEWAY, 1, 0, b"sampler");
-    assert_eq!(gateway.receive(0, READER, &reader.sent()).row, Row::InvokeNothingCached);
+    assert_eq!(gateway.receive(0, READER, &reader.sent()).row, Row::InvokeRestartedNothingCached);
     assert_eq!(gateway.sent(), [0x1C, 0x80, 0x05]);
     assert_eq!(gateway.store[..8], *b"sampler\x5A");
     assert_eq!(reader.receive(1, GATEWAY, &gateway.sent()).row, Row::IResultWaitFirstTidok);
@@ -44,7 +44,7 @@ fn a_class_1_transaction_is_verified_shown_and_confirmed_with_exit_information()
 
 #[test]
 fn a_class_2_transaction_with_hold_on_ends_with_an_empty_result_that_is_a_result() {
-    let (mut reader, mut gateway) = (End::new(2, 5), End::new(2, 0));
+    let (mut reader, mut gateway) = (End::new(2, 5).after_its_first(), End::new(2, 0));
     gateway.cache(READER as usize, 4);
     reader.request(0, GATEWAY, 2, 0, b"sampler");
     assert_eq!(gateway.receive(0, READER, &reader.sent()).row, Row::InvokeValid);
@@ -75,7 +75,7 @@ fn a_result_without_hold_on_confirms_first_and_shows_its_own_data() {
 
 #[test]
 fn a_users_abort_is_shown_to_the_peer_as_an_abort_with_type_and_reason() {
-    let (mut reader, mut gateway) = (End::new(1, 5), End::new(1, 0));
+    let (mut reader, mut gateway) = (End::new(1, 5).after_its_first(), End::new(1, 0));
     reader.request(0, GATEWAY, 2, 0, &[]);
     gateway.cache(READER as usize, 4);
     gateway.receive(0, READER, &reader.sent());
