@@ -1,27 +1,25 @@
 -- An accepted Invoke with TIDnew drops its peer's cached TID and no other's; then nothing is cached for that peer until a verification of its ends. Assumes nothing.
-use Prim.Native.Nat.{ℕ, _≤_, _<_}
+use Prim.Native.Nat.{ℕ, _<_}
 use native.Mathlib.Omega.{arith}
 use mathlib.Core.Path.{_≡_, refl, sym, ap, _∙_}
 use mathlib.Core.Bool.{Bool, true, false, _||_, not}
 use mathlib.Core.List.{List}
 use mathlib.Core.Logic.{_⊎_, inl, inr}
 use lib.ListN.{length}
-use lib.Dec.{ltb, eqb}
+use lib.Dec.{eqb}
 use borrow.Author.Tests.{le-ltb, ne-eqb}
-use Rattle.base_layout.specs.Layout.{peers, cellSize}
+use Rattle.base_layout.specs.Layout.{peers}
 use Rattle.base_lists.specs.Seq.{pick, every}
 use Rattle.base_lists.proofs.StoresAndParts.{true-false}
 use Rattle.codec_pdu.specs.Pdu.{soundOf}
 use Rattle.codec_pdu.specs.declared.Pdu.{Pdu}
 use Rattle.codec_reading.specs.Read.{pduOf}
-use Rattle.table_record.specs.declared.Role.{Role}
 use Rattle.table_record.specs.declared.Role.the-variants.{Responder}
 use Rattle.table_layout.specs.Table.{count, cachedOf, recordAt}
 use Rattle.table_finding.specs.Finding.{isFound, freeOf}
 use Rattle.table_tids.specs.Tids.{testOf}
 use Rattle.law_formed_kept.proofs.InRecord.{equal-or}
 use Rattle.row_events.specs.Events.{sameRow}
-use Rattle.row_events.specs.declared.Event.{Event}
 use Rattle.row_events.specs.declared.Row.{Row}
 use Rattle.row_events.specs.declared.Row.the-variants as Row
 use Rattle.row_events.specs.declared.Opening.{Opening}
@@ -36,7 +34,7 @@ use Rattle.row_entries.specs.Acts.{actOf, openingAct}
 use Rattle.row_turns.specs.Turns.{turnOf, rowTurn, openingTurn}
 use Rattle.step_arrivals.specs.Arrivals.{wantedOf, arrivedOf}
 use Rattle.step_commit.specs.declared.TidChange.{TidChange}
-use Rattle.step_commit.specs.declared.TidChange.the-variants.{Unchanged, Set}
+use Rattle.step_commit.specs.declared.TidChange.the-variants.{Set}
 use Rattle.step_changes.specs.Changes.{cachedAfter, turnChanges}
 use Rattle.step_plan.specs.Steps.{stepOf, idleChanges, idleStep}
 use Rattle.step_plan.specs.declared.Step.{Step}
@@ -52,7 +50,7 @@ use Rattle.call_receive.proofs.Dispatch.{none-takes}
 use Rattle.call_plans.specs.Calls.{Call, Lends, promised, planFor}
 use Rattle.law_commit.proofs.Frame.{commit-frames}
 use Rattle.law_commit.proofs.Left.{headerThen, cached-left}
-use Rattle.law_ways.proofs.Ways.{Way, Accepted}
+use Rattle.law_ways.proofs.Ways.{Way}
 use Rattle.law_ways.proofs.CallWays.{call-ways}
 use Rattle.law_plans_sound.proofs.CallSound.{way-sound}
 use Rattle.law_plans_sound.proofs.Receives.{picked}

@@ -5,7 +5,6 @@ use mathlib.Core.Path.{_≡_, refl, sym, ap, _∙_}
 use mathlib.Core.Bool.{Bool, true, false}
 use mathlib.Core.List.{List}
 use mathlib.Core.Logic.{inl, inr}
-use lib.ListN.{length}
 use lib.Dec.{eqb}
 use Rattle.base_lists.specs.Seq.{pick}
 use Rattle.base_lists.proofs.StoresAndParts.{true-false}

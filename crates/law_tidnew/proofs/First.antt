@@ -3,7 +3,7 @@ use Prim.Native.Nat.{ℕ, _%_}
 use native.Mathlib.Omega.{arith}
 use mathlib.Core.Path.{_≡_, refl, sym, ap, _∙_}
 use mathlib.Core.Bool.{Bool, true, false, _&&_, not}
-use mathlib.Core.List.{List, [], _∷_}
+use mathlib.Core.List.{List}
 use lib.ListN.{length, getD}
 use lib.Dec.{eqb}
 use Rattle.base_lists.specs.Seq.{pick}
@@ -12,10 +12,9 @@ use Rattle.table_layout.specs.Table.{genTidOf, tidnewDueOf}
 use Rattle.table_tids.specs.Tids.{carriesTidnew}
 use Rattle.step_plan.specs.declared.Plan.{Plan}
 use Rattle.step_plan.specs.declared.Plan.the-variants.{Refuse, Go}
-use Rattle.call_request.specs.Requests.{requestStep}
 use Rattle.call_request.proofs.Accepted.{placeOf, request-accepted}
 use Rattle.step_outcome.specs.Carry.{Lent, Done, carriedOut, outcome}
-use Rattle.call_plans.specs.Calls.{Call, Lends, promised, planFor, asRequest}
+use Rattle.call_plans.specs.Calls.{Call, promised, planFor, asRequest}
 use Rattle.law_history.specs.Trace.{Entry, Promise, Run, start, called, Throughout}
 use Rattle.law_history.specs.Tally.{accepted}
 use Rattle.law_tidnew.specs.TidNew.{dueBy, firstDue, invokeOctet, Carries}

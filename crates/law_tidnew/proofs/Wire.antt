@@ -1,13 +1,13 @@
 -- What an accepted request sends: an Invoke, with TIDnew where its record has it. Assumes nothing.
-use Prim.Native.Nat.{ℕ, _+_, _*_, _/_, _%_, _≤_}
+use Prim.Native.Nat.{ℕ, _%_, _≤_}
 use native.Mathlib.Omega.{arith}
-use mathlib.Core.Path.{_≡_, refl, ap, _∙_}
+use mathlib.Core.Path.{_≡_, refl}
 use mathlib.Core.Bool.{Bool, true, false}
-use mathlib.Core.List.{List, [], _∷_}
+use mathlib.Core.List.{List, _∷_}
 use lib.ListN.{length, getD}
 use lib.Dec.{eqb}
 use Rattle.base_layout.specs.Layout.{outputLeast}
-use Rattle.base_lists.specs.Seq.{pick, bit, part, put}
+use Rattle.base_lists.specs.Seq.{pick, part, put}
 use Rattle.base_lists.proofs.StoresAndParts.{length-part}
 use Rattle.base_octets.proofs.StoredAndRead.{getD-same}
 use Rattle.table_layout.specs.Table.{tidnewDueOf}

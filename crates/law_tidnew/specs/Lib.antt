@@ -1,2 +1,3 @@
 pub mod TidNew
 pub mod Dropped
+pub mod Repeats
