@@ -20,7 +20,7 @@ use Rattle.row_events.specs.declared.Opening.the-variants as Opening
 use Rattle.row_choice.specs.Rows.{requestedOf}
 use Rattle.row_columns.specs.Columns.{actWith, stored}
 use Rattle.row_entries.specs.Acts.{openingAct}
-use Rattle.law_rows.specs.Shown.{stateAfter}
+use Rattle.law_rows.specs.Shown.{livingState}
 use Rattle.row_turns.specs.Turns.{newRecord}
 use Rattle.law_commit.specs.Allowed.{CountOk}
 use Rattle.step_opening.specs.Opens.{openedTurn}
@@ -47,11 +47,11 @@ requested-role class = go (eqb class 0) (eqb class 1)
     go false false = refl
 
 -- and so it may carry TIDnew
-requested-state : (class : ℕ) → roleOf (stateAfter (openingAct (requestedOf class) .next) Free) ≡ Initiator
+requested-state : (class : ℕ) → roleOf (livingState (openingAct (requestedOf class) .next) Free) ≡ Initiator
 unfolding requestedOf openingAct actWith stored
 requested-state class = go (eqb class 0) (eqb class 1)
   where
-    go : (a b : Bool) → roleOf (stateAfter (openingAct (pick a Opening.Requested0 (pick b Opening.Requested1 Opening.Requested2)) .next) Free) ≡ Initiator
+    go : (a b : Bool) → roleOf (livingState (openingAct (pick a Opening.Requested0 (pick b Opening.Requested1 Opening.Requested2)) .next) Free) ≡ Initiator
     go true b = refl
     go false true = refl
     go false false = refl

@@ -36,7 +36,7 @@ use Rattle.row_entries.specs.Acts.{actOf, openingAct}
 use Rattle.table_tids.specs.Tids.{intervalOf}
 use Rattle.row_turns.specs.Turns.{upOf, rcrAfter, aecAfter, exitLenAfter, lenAfter, deadlineAfter, newRecord, movedTo, recordAfter, turnOf, rowTurn, openingTurn}
 use Rattle.row_turns.specs.declared.Given.{Given}
-use Rattle.law_rows.specs.Shown.{actAt, stateAfter}
+use Rattle.law_rows.specs.Shown.{actAt, livingState}
 use Rattle.table_record_ok.specs.OneRecord.{tidnewBound, Bounded}
 use Rattle.law_rows.specs.Range.{Within}
 use Rattle.law_rows.proofs.Rows.{same-self, keeps-role}
@@ -137,7 +137,7 @@ module _ (g : Given) (s : Settings) (rows : List (List ℕ)) (within : Within g 
       peer = ok .peer;
     }
 
-    after-in-range : (n : Next) → bit (r .tidnew) ≤ tidnewBound (roleOf (stateAfter n (r .state))) → Bounded s (recordAfter n a r g s rows)
+    after-in-range : (n : Next) → bit (r .tidnew) ≤ tidnewBound (roleOf (livingState n (r .state))) → Bounded s (recordAfter n a r g s rows)
     unfolding recordAfter
     after-in-range Stays tidnew = moved-in-range (r .state) tidnew
     after-in-range Ends tidnew = new-in-range 0 0 false false (omega arith) (omega arith)
@@ -152,7 +152,7 @@ module _ (g : Given) (s : Settings) (rows : List (List ℕ)) (within : Within g 
       (rw (keeps-role (g .kind) (g .reason) (r .«tidok_sent») (r .state) e (conditionsOf s r)) (ok .tidnew))
 
   -- a new record under an opening, with TIDnew only where that opens an initiator's
-  pub opening-in-range : (o : Opening) (r : Record) → Bounded s r → bit (r .tidnew) ≤ tidnewBound (roleOf (stateAfter (openingAct o .next) (r .state))) → Bounded s (openingTurn o r g s rows .after)
+  pub opening-in-range : (o : Opening) (r : Record) → Bounded s r → bit (r .tidnew) ≤ tidnewBound (roleOf (livingState (openingAct o .next) (r .state))) → Bounded s (openingTurn o r g s rows .after)
   unfolding openingTurn turnOf every openingAct actWith stored shown
   opening-in-range o r ok tidnew =
       let counts : Opening → Bool = λ x. allowed (openingAct x .count) (ltb (r .rcr .0) (s .«rcr_max»)) (ltb (r .aec .0) (s .«aec_max»)) in

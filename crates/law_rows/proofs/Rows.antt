@@ -20,7 +20,7 @@ use Rattle.row_columns.specs.Columns.{actWith, taken, acked, stored, shown}
 use Rattle.row_columns.specs.declared.Send.{Send}
 use Rattle.row_columns.specs.declared.Send.the-variants as Send
 use Rattle.row_entries.specs.Acts.{actOf, openingAct}
-use Rattle.law_rows.specs.Shown.{actAt, showsAbort, showsResult, takesResult, stateAfter, countsRcr, sentAfterFirst, SendProper}
+use Rattle.law_rows.specs.Shown.{actAt, showsAbort, showsResult, takesResult, livingState, countsRcr, sentAfterFirst, SendProper}
 
 pub same-self : (b : Bool) → Bool·beq b b ≡ true
 same-self true = refl
@@ -54,17 +54,17 @@ module _ (kind reason : ℕ) (tidok : Bool) where
       same-bool (shows s e c) (takesResult s e) (at-state (λ s e c. Bool·beq (shows s e c) (takesResult s e)) refl s e c)
 
   -- a record stays in its role
-  pub keeps-role : (s : State) (e : Event) (c : Conditions) → roleOf (stateAfter (actAt s e c tidok kind reason .next) s) ≡ roleOf s
+  pub keeps-role : (s : State) (e : Event) (c : Conditions) → roleOf (livingState (actAt s e c tidok kind reason .next) s) ≡ roleOf s
   unfolding every stateOf rowOf actOf actWith taken acked stored shown
   keeps-role s e c =
-      let role : State → Event → Conditions → Role = λ s e c. roleOf (stateAfter (actAt s e c tidok kind reason .next) s) in
+      let role : State → Event → Conditions → Role = λ s e c. roleOf (livingState (actAt s e c tidok kind reason .next) s) in
       same-role (role s e c) (roleOf s) (at-state (λ s e c. eqb (roleNumber (role s e c)) (roleNumber (roleOf s))) refl s e c)
 
   -- and in its class
-  pub keeps-class : (s : State) (e : Event) (c : Conditions) → classOf (stateAfter (actAt s e c tidok kind reason .next) s) ≡ classOf s
+  pub keeps-class : (s : State) (e : Event) (c : Conditions) → classOf (livingState (actAt s e c tidok kind reason .next) s) ≡ classOf s
   unfolding every stateOf rowOf actOf actWith taken acked stored shown
   keeps-class s e c =
-      let class : State → Event → Conditions → ℕ = λ s e c. classOf (stateAfter (actAt s e c tidok kind reason .next) s) in
+      let class : State → Event → Conditions → ℕ = λ s e c. classOf (livingState (actAt s e c tidok kind reason .next) s) in
       eqb-true (class s e c) (classOf s) (at-state (λ s e c. eqb (class s e c) (classOf s)) refl s e c)
 
 -- what comes without a live record shows neither

@@ -15,7 +15,7 @@ use Rattle.row_columns.specs.declared.Next.the-variants.{Stays, Ends, Goes}
 use Rattle.row_columns.specs.declared.Act.{Act}
 use Rattle.row_turns.specs.Turns.{movedTo, recordAfter, turnOf, rowTurn}
 use Rattle.row_turns.specs.declared.Given.{Given}
-use Rattle.law_rows.specs.Shown.{actAt, stateAfter}
+use Rattle.law_rows.specs.Shown.{actAt, livingState}
 use Rattle.law_rows.specs.Transaction.{FreedOrSame}
 use Rattle.law_rows.proofs.Rows.{keeps-role, keeps-class}
 
@@ -24,7 +24,7 @@ module _ (g : Given) (s : Settings) (rows : List (List ℕ)) (r : Record) where
   unfolding movedTo
   moved-same a t role class = inr (record { role = role; class = class; peer = refl; tid = refl; userAck = refl; tidnew = refl })
 
-  after-same : (a : Act) (n : Next) → roleOf (stateAfter n (r .state)) ≡ roleOf (r .state) → classOf (stateAfter n (r .state)) ≡ classOf (r .state)
+  after-same : (a : Act) (n : Next) → roleOf (livingState n (r .state)) ≡ roleOf (r .state) → classOf (livingState n (r .state)) ≡ classOf (r .state)
       → FreedOrSame r (recordAfter n a r g s rows)
   unfolding recordAfter
   after-same a Stays role class = moved-same a (r .state) role class

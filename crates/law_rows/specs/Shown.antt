@@ -54,10 +54,10 @@ takesResult s e =
     && (eqb (eventNumber e) (eventNumber Event.Result) || eqb (eventNumber e) (eventNumber Event.ResultRid))
 
 -- the state that a record is in while it lives
-abbrev pub stateAfter : Next → State → State
-stateAfter Stays s = s
-stateAfter Ends s = s
-stateAfter (Goes t) s = t
+abbrev pub livingState : Next → State → State
+livingState Stays s = s
+livingState Ends s = s
+livingState (Goes t) s = t
 
 -- 01: "RCR is the number of Invoke, TIDok or Result PDUs sent after the first"
 abbrev pub countsRcr : Count → Bool

@@ -23,7 +23,7 @@ use Rattle.row_events.specs.declared.Opening.{Opening}
 use Rattle.row_columns.specs.declared.Cache.{Cache}
 use Rattle.row_columns.specs.declared.Cache.the-variants as Cache
 use Rattle.row_entries.specs.Acts.{openingAct}
-use Rattle.law_rows.specs.Shown.{stateAfter}
+use Rattle.law_rows.specs.Shown.{livingState}
 use Rattle.law_rows.specs.Range.{Within}
 use Rattle.law_rows.specs.Transaction.{FreedOrSame}
 use Rattle.law_rows.proofs.Range.{new-in-range, turn-in-range, opening-in-range}
@@ -113,7 +113,7 @@ module _ (t : List ℕ) (w : WellFormed t) (place : ℕ) (lives : LiveAt t place
 
 -- an opening for a holder whose name no live record has
 module _ (t : List ℕ) (w : WellFormed t) (opening : Opening) (h : Holder) (g : Given) (ok : GivenOk g) (inside : h .place < count t) (peer : h .peer < peers) (tid : h .tid ≤ tidBound)
-    (tidnew : bit (h .tidnew) ≤ tidnewBound (roleOf (stateAfter (openingAct opening .next) Free))) where
+    (tidnew : bit (h .tidnew) ≤ tidnewBound (roleOf (livingState (openingAct opening .next) Free))) where
   abbrev opened : Record
   opened = openedTurn t opening h g .after
 

@@ -17,7 +17,7 @@ use Rattle.row_events.specs.declared.Event.{Event}
 use Rattle.row_events.specs.declared.Opening.{Opening}
 use Rattle.row_entries.specs.Acts.{openingAct}
 use Rattle.table_record_ok.specs.OneRecord.{tidnewBound}
-use Rattle.law_rows.specs.Shown.{stateAfter, SendProper}
+use Rattle.law_rows.specs.Shown.{livingState, SendProper}
 use Rattle.law_rows.proofs.Rows.{proper, proper-opening}
 use Rattle.row_turns.specs.Turns.{turnOf, rowTurn, openingTurn}
 use Rattle.row_turns.specs.declared.Given.{Given}
@@ -100,7 +100,7 @@ class-opening t opening h g k = k
 
 -- what comes without a live record, under a name that no live record has
 pub opening-sound : (l : Lent) (opening : Opening) (h : Holder) (g : Given) (genTid : GenTidChange) (c : Call) → Fits l → GivenOk g → LentOk l c → CountOk genTid
-    → h .place < count (l .table) → h .peer < peers → h .tid ≤ tidBound → bit (h .tidnew) ≤ tidnewBound (roleOf (stateAfter (openingAct opening .next) State.Free)) → h .len ≤ cellSize → ClassFits (openingAct opening .send) (h .class)
+    → h .place < count (l .table) → h .peer < peers → h .tid ≤ tidBound → bit (h .tidnew) ≤ tidnewBound (roleOf (livingState (openingAct opening .next) State.Free)) → h .len ≤ cellSize → ClassFits (openingAct opening .send) (h .class)
     → (1 ≤ stateNumber (openedTurn (l .table) opening h g .after .state) → Unused (l .table) (h .place) (openedTurn (l .table) opening h g .after))
     → Sound l (openingStep (l .table) opening h g genTid c)
 unfolding openingStep openingChanges
