@@ -1,10 +1,11 @@
 -- The deadline of a record after a call is now and the interval that document 01 names for its row. Assumes nothing.
 use Prim.Native.Nat.{ℕ, _≤_}
 use native.Mathlib.Omega.{arith}
-use borrow.Author.Tests.{eqb-false, ne-eqb}
+use borrow.Author.Tests.{eqb-true, eqb-false, ne-eqb}
 use mathlib.Core.Path.{_≡_, refl, sym, ap, _∙_}
 use mathlib.Core.Bool.{Bool, true, false}
 use mathlib.Core.List.{List}
+use mathlib.Core.Logic.{_⊎_, inl, inr}
 use lib.Dec.{eqb}
 use Rattle.base_lists.specs.Seq.{pick}
 use Rattle.table_record.specs.Record.{stateNumber}
@@ -60,13 +61,33 @@ module _ (c : Call) (l : Lent) (step : Step) (lends : Lends c l) (goes : planFor
       ap (λ (d : Done). stateNumber (recordAt (d .table) (step .changes .place) .state)) as-done
       ∙ ap stateNumber (cleared-left (l .table) (step .changes) (l .exit) (call-way c l step goes .1) (sound .allowed) e)
 
-  -- a live record that took an event: by the row's timer, with the state and the RCR that it then has
+  -- a live record that took an event is as its turn leaves it, in its ranges, or free
+  pub record-left : (k : TakenBy c l step) (x : Record) → x ≡ liveTurn (l .table) (k .place) (k .event) (k .given) .after
+      → (Live x × ((recordAt (tableLeft c l) (k .place) ≡ x) × InRange (settingsOf (l .table)) x)) ⊎ ((stateNumber (x .state) ≡ 0) × (stateNumber (recordAt (tableLeft c l) (k .place) .state) ≡ 0))
+  unfolding liveStep stepOf turnChanges changeOf
+  record-left k x is = go (eqb (stateNumber (x .state)) 0) refl
+    where
+      change-is : step .changes .change ≡ pick (eqb (stateNumber (x .state)) 0) Clear (Put x)
+      change-is = rw is (ap (λ (y : Step). y .changes .change) (k .step-is))
+
+      place-is : step .changes .place ≡ k .place
+      place-is = ap (λ (y : Step). y .changes .place) (k .step-is)
+
+      go : (b : Bool) → eqb (stateNumber (x .state)) 0 ≡ b
+          → (Live x × ((recordAt (tableLeft c l) (k .place) ≡ x) × InRange (settingsOf (l .table)) x)) ⊎ ((stateNumber (x .state) ≡ 0) × (stateNumber (recordAt (tableLeft c l) (k .place) .state) ≡ 0))
+      go true e =
+          inr (eqb-true (stateNumber (x .state)) 0 e, ap (λ (n : ℕ). stateNumber (recordAt (tableLeft c l) n .state)) (sym place-is) ∙ gone (change-is ∙ ap (λ (b : Bool). pick b Clear (Put x)) e))
+      go false e =
+          let put : step .changes .change ≡ Put x = change-is ∙ ap (λ (b : Bool). pick b Clear (Put x)) e in
+          inl (omega (arith, eqb-false (stateNumber (x .state)) 0 e), (ap (λ (n : ℕ). recordAt (tableLeft c l) n) (sym place-is) ∙ there x put, ranged x put))
+
+  -- its deadline and its waiting limit: by the row's timer, with the state and the RCR that it then has
   pub deadline-live : (k : TakenBy c l step) → Live (recordAt (tableLeft c l) (k .place))
       → (recordAt (tableLeft c l) (k .place) .deadline
       ≡ deadlineBy (timerOf (rowAt (l .table) (k .place) (k .event))) (recordAt (l .table) (k .place) .deadline) (timeOf c) (settingsOf (l .table)) (intervalsOf (l .table)) (recordAt (tableLeft c l) (k .place)))
       × (recordAt (tableLeft c l) (k .place) .limit ≡ limitBy (timerOf (rowAt (l .table) (k .place) (k .event))) (recordAt (l .table) (k .place) .limit) (settingsOf (l .table)))
-  unfolding liveStep liveTurn stepOf turnChanges changeOf
-  deadline-live k live = go (eqb (stateNumber (x .state)) 0) refl
+  unfolding liveTurn
+  deadline-live k live = go (record-left k x refl)
     where
       t : List ℕ
       t = l .table
@@ -77,25 +98,13 @@ module _ (c : Call) (l : Lent) (step : Step) (lends : Lends c l) (goes : planFor
       x : Record
       x = liveTurn t (k .place) (k .event) (k .given) .after
 
-      change-is : step .changes .change ≡ pick (eqb (stateNumber (x .state)) 0) Clear (Put x)
-      change-is = ap (λ (y : Step). y .changes .change) (k .step-is)
-
-      place-is : step .changes .place ≡ k .place
-      place-is = ap (λ (y : Step). y .changes .place) (k .step-is)
-
-      go : (b : Bool) → eqb (stateNumber (x .state)) 0 ≡ b
+      go : (Live x × ((recordAt (tableLeft c l) (k .place) ≡ x) × InRange (settingsOf t) x)) ⊎ ((stateNumber (x .state) ≡ 0) × (stateNumber (recordAt (tableLeft c l) (k .place) .state) ≡ 0))
           → (recordAt (tableLeft c l) (k .place) .deadline ≡ deadlineBy (timerOf (rowAt t (k .place) (k .event))) (r .deadline) (timeOf c) (settingsOf t) (intervalsOf t) (recordAt (tableLeft c l) (k .place)))
           × (recordAt (tableLeft c l) (k .place) .limit ≡ limitBy (timerOf (rowAt t (k .place) (k .event))) (r .limit) (settingsOf t))
-      go true e =
-          let free : stateNumber (recordAt (tableLeft c l) (k .place) .state) ≡ 0 =
-          ap (λ (n : ℕ). stateNumber (recordAt (tableLeft c l) n .state)) (sym place-is) ∙ gone (change-is ∙ ap (λ (b : Bool). pick b Clear (Put x)) e) in
-          absurd (omega (arith, live))
-      go false e =
-          let put : step .changes .change ≡ Put x = change-is ∙ ap (λ (b : Bool). pick b Clear (Put x)) e in
-          let is : recordAt (tableLeft c l) (k .place) ≡ x = ap (λ (n : ℕ). recordAt (tableLeft c l) n) (sym place-is) ∙ there x put in
-          let lives : 1 ≤ stateNumber (x .state) = omega (arith, eqb-false (stateNumber (x .state)) 0 e) in
-          let named = row-deadline (k .given) (settingsOf t) (intervalsOf t) r (rowAt t (k .place) (k .event)) lives (small x (ranged x put)) in
-          rw is (named .0 ∙ ap (λ (n : ℕ). deadlineBy (timerOf (rowAt t (k .place) (k .event))) (r .deadline) n (settingsOf t) (intervalsOf t) x) (k .time), named .1)
+      go (inr f) = absurd (omega (arith, live, f .1))
+      go (inl n) =
+          let named = row-deadline (k .given) (settingsOf t) (intervalsOf t) r (rowAt t (k .place) (k .event)) (n .0) (small x (n .1 .1)) in
+          rw (n .1 .0) (named .0 ∙ ap (λ (m : ℕ). deadlineBy (timerOf (rowAt t (k .place) (k .event))) (r .deadline) m (settingsOf t) (intervalsOf t) x) (k .time), named .1)
 
   -- a record that is opened: by the opening's timer
   pub deadline-opening : (k : ComesAlone c l step) → Live (openedTurn (l .table) (k .opening) (k .holder) (k .given) .after)

@@ -3,3 +3,4 @@ pub mod OneOutcome
 pub mod Exported
 pub mod DataSaid
 pub mod InTwo
+pub mod Waiting

@@ -48,6 +48,14 @@ module _ (e : Entry) (p : Promise e) where
   refused-around : (r : Refusal) → planFor (e .call) (e .lent) ≡ Refuse r → WellFormed (before e) → Around e
   refused-around r q w = record { formed = subst WellFormed (sym (same-table r q)) w; same-count = ap count (same-table r q); same-settings = ap settingsOf (same-table r q) }
 
+  -- every call, refused or not
+  pub around : WellFormed (before e) → Around e
+  around w = go (planFor (e .call) (e .lent)) refl
+    where
+      go : (plan : Plan) → planFor (e .call) (e .lent) ≡ plan → Around e
+      go (Refuse r) q = refused-around r q w
+      go (Go step) q = accepted-around step q
+
   sizes-kept : Sizes (before e) (e .lent .store) → Sizes (after e) (e .done .store)
   sizes-kept z = go (planFor (e .call) (e .lent)) refl
     where

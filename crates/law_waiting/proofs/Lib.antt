@@ -1,0 +1,5 @@
+pub mod Lowers
+pub mod Most
+pub mod Kept
+pub mod Through
+pub mod Fired
