@@ -74,6 +74,7 @@ impl Common {
             w: self.last_repeat(),
             r_class_1: rows,
             r_class_2: rows,
+            waiting_limit: None,
         };
         Table::fresh(self.records, &settings, self.first_tid).map_err(|why| format!("the settings were refused: {why}"))
     }

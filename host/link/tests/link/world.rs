@@ -36,7 +36,7 @@ pub fn table(records: u64) -> Table {
 
 pub fn table_from(first_tid: u16, records: u64) -> Table {
     let rows = [INTERVAL; 9];
-    let settings = Settings { rcr_max: RCR_MAX, aec_max: 2, a: INTERVAL, w: W, r_class_1: rows, r_class_2: rows };
+    let settings = Settings { rcr_max: RCR_MAX, aec_max: 2, a: INTERVAL, w: W, r_class_1: rows, r_class_2: rows, waiting_limit: None };
     Table::fresh(records, &settings, first_tid).unwrap()
 }
 
