@@ -728,8 +728,9 @@ def waiting_limit():
     shown_at_gateway()
     tim(G, 110, has="HoldOnSent}; sent 188040"), due(G, has="; 5110 responder 7/64"), rcv(G, 200, 7, "0F004002 CC", has="HoldOnRepeated}; sent 198040"), due(G, has="; 5110 responder 7/64"), look(G, has="due 5110 limit 5000 length 0 hold-on-sent")
     tim(G, 5109, has="; none due"), tim(G, 5110, has="{RResultWait Timer ResultWaitEnds}"), assert_line(" {0: RResultWait -> Free}; sent 20804008; fired responder 7/64; abort responder 7/64 reason 8 no data")
-    limits_by_name()
-    limits_left_and_ended()
+    limits_fired()
+    limits_left()
+    limits_ended()
     limits_off_and_made_up()
     limits_refused()
     firings_bounded()
@@ -740,7 +741,7 @@ def assert_line(end):
     assert expected[-1].endswith(": ok" + end), expected[-1]
 
 
-def limits_by_name():
+def limits_fired():
     title("each limit fired by name, as by the timer: one millisecond before, it isn't due")
     for cls in (1, 2):
         pair(**LIMIT)
@@ -763,7 +764,7 @@ def limits_by_name():
     rcv(G, BOUND, 5, "0E000701"), due(G, has="; 1000086400000 responder 5/7"), tim(G, BOUND, has="; none due"), look(G, has="due 1000086400000 limit 86400000")
 
 
-def limits_left_and_ended():
+def limits_left():
     title("what has no row, and a refused primitive, leaves the limit: TIDOK WAIT, held on, RESULT WAIT of the responder")
     for cls in (1, 2):
         pair(**LIMIT)
@@ -784,6 +785,9 @@ def limits_left_and_ended():
     pair(_0=1, **LIMIT)
     req(R, 0, 5, 2), rcv(R, 10, 5, "1C8007", has="; sent 1C0007"), rcv(R, 20, 5, "188007", has="HeldOn}"), due(R, has="; 5020 initiator 5/7"), rcv(R, 30, 5, "1C8007", has="Ignored}"), due(R, has="; 5020 initiator 5/7")
     tim(R, 5020, has="HeldOnWaitEnds}; fired initiator 5/7; abort initiator 5/7 reason 8")
+
+
+def limits_ended():
     title("rows that start a timer end the limit: TIDok, Result while held on, the user's result, and his answer, after which come A, hold-on, limit and end")
     for cls in (1, 2):
         pair(**LIMIT)
