@@ -788,7 +788,7 @@ def limits_left():
 
 
 def limits_ended():
-    title("rows that start a timer end the limit: TIDok, Result while held on, the user's result, and his answer, after which come A, hold-on, limit and end")
+    title("rows that start a timer end the limit: TIDok, a Result while held on, the user's result, and the user's answer, after which come A, hold-on, limit and end")
     for cls in (1, 2):
         pair(**LIMIT)
         rcv(G, 0, 5, "0E00070%d" % cls), rcv(G, 10, 5, "1C0007", has="Verified%d}" % cls), due(G, has="; 1010 responder 5/7"), look(G, has="due 1010 length 0")

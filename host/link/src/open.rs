@@ -1,4 +1,4 @@
-//! The gateway's open transactions, as its user knows them: which he hasn't answered, and which he answered how.
+//! The gateway's open transactions, as its user knows them: which aren't answered, and which are and how.
 
 use wtp::Name;
 
