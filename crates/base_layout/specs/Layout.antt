@@ -1,19 +1,19 @@
 -- The sizes, offsets and bounds of the table and of document 01, each once for specs; src/lib.rt has them for code, since these are two languages. docs/TABLE.md shows the octets.
 use Prim.Native.Nat.{ℕ, _+_, _*_}
 
--- docs/TABLE.md: the octets of the header; clock 8, GenTID 2, RCR_MAX 1, AEC_MAX 1, A 4, W 4, two rows of nine intervals of 4, 5 spare, TIDnew due 1, 14 spare, 256 cached TIDs of 2
+-- docs/TABLE.md: the octets of the header; clock 8, GenTID 2, RCR_MAX 1, AEC_MAX 1, A 4, W 4, two rows of nine intervals of 4, the waiting limit 4, modes 1, TIDnew due 1, 14 spare, 256 cached TIDs of 2
 abbrev pub headerSize : ℕ
 headerSize = 624
 
--- docs/TABLE.md: the octets of a record; 20 of fields, 28 spare, 128 of exit information
+-- docs/TABLE.md: the octets of a record; 24 of fields, 24 spare, 128 of exit information
 abbrev pub recordSize : ℕ
 recordSize = 176
 
 abbrev pub fieldsSize : ℕ
-fieldsSize = 20
+fieldsSize = 24
 
 abbrev pub spareSize : ℕ
-spareSize = 28
+spareSize = 24
 
 -- docs/TABLE.md: where a field of the header begins
 abbrev pub clockAt : ℕ
@@ -43,22 +43,23 @@ row2At = 56
 abbrev pub cachedAt : ℕ
 cachedAt = 112
 
+-- docs/TABLE.md: the waiting limit and the modes (02, L6)
+abbrev pub limitAt : ℕ
+limitAt = 92
+
+abbrev pub modesAt : ℕ
+modesAt = 96
+
 -- docs/TABLE.md: whether TIDnew is due (02, L2)
 abbrev pub tidnewDueAt : ℕ
 tidnewDueAt = 97
 
--- docs/TABLE.md: the spare octets of the header before and after it, where they begin and how many they are
-abbrev pub headerSpare1At : ℕ
-headerSpare1At = 92
+-- docs/TABLE.md: the spare octets of the header, where they begin and how many they are
+abbrev pub headerSpareAt : ℕ
+headerSpareAt = 98
 
-abbrev pub headerSpare1Size : ℕ
-headerSpare1Size = 5
-
-abbrev pub headerSpare2At : ℕ
-headerSpare2At = 98
-
-abbrev pub headerSpare2Size : ℕ
-headerSpare2Size = 14
+abbrev pub headerSpareSize : ℕ
+headerSpareSize = 14
 
 -- docs/TABLE.md: where a field of a record begins, from the record's begin; the state is its first octet
 abbrev pub peerOffset : ℕ
@@ -85,8 +86,11 @@ deadlineOffset = 8
 abbrev pub lenOffset : ℕ
 lenOffset = 16
 
+abbrev pub limitOffset : ℕ
+limitOffset = 20
+
 abbrev pub spareOffset : ℕ
-spareOffset = 20
+spareOffset = 24
 
 abbrev pub exitOffset : ℕ
 exitOffset = 48

@@ -1,14 +1,14 @@
 // The sizes, offsets and bounds of the table and of document 01, each once for code; specs/Layout.antt has them for specs, since these are two languages.
 // A contract that names the one holds it equal to the other. docs/TABLE.md shows the octets.
 
-// The header, and a record: 20 octets of fields, 28 spare, 128 of exit information.
+// The header, and a record: 24 octets of fields, 24 spare, 128 of exit information.
 pub const HEADER_SIZE: usize = 624;
 
 pub const RECORD_SIZE: usize = FIELDS_SIZE + SPARE_SIZE + EXIT_BOUND;
 
-pub const FIELDS_SIZE: usize = 20;
+pub const FIELDS_SIZE: usize = 24;
 
-pub const SPARE_SIZE: usize = 28;
+pub const SPARE_SIZE: usize = 24;
 
 // Where a field of the header begins.
 pub const CLOCK_AT: usize = 0;
@@ -27,11 +27,13 @@ pub const ROW_1_AT: usize = 20;
 
 pub const ROW_2_AT: usize = 56;
 
-pub const HEADER_SPARE_1_AT: usize = 92;
+pub const LIMIT_AT: usize = 92;
+
+pub const MODES_AT: usize = 96;
 
 pub const TIDNEW_DUE_AT: usize = 97;
 
-pub const HEADER_SPARE_2_AT: usize = 98;
+pub const HEADER_SPARE_AT: usize = 98;
 
 pub const CACHED_AT: usize = 112;
 
@@ -51,6 +53,8 @@ pub const EXIT_LEN_OFFSET: usize = 7;
 pub const DEADLINE_OFFSET: usize = 8;
 
 pub const LEN_OFFSET: usize = 16;
+
+pub const LIMIT_OFFSET: usize = 20;
 
 pub const SPARE_OFFSET: usize = FIELDS_SIZE;
 

@@ -23,7 +23,7 @@ use Rattle.step_opening.specs.Opens.{openedTurn, openingChanges, openingStep}
 use Rattle.step_outcome.specs.Carry.{Lent, Done, tableThen, carriedOut, outcome}
 use Rattle.law_steps_sound.specs.Sound.{Sound}
 use Rattle.law_plans_sound.specs.Plans.{PlanSound}
-use Rattle.law_rows_done.specs.Leaves.{timerOf, openingTimer, deadlineBy}
+use Rattle.law_rows_done.specs.Leaves.{timerOf, openingTimer, deadlineBy, limitBy}
 use Rattle.law_rows_done.proofs.Deadlines.{row-deadline, opening-deadline}
 use Rattle.call_plans.specs.Calls.{Call, Lends, promised, planFor, timeOf}
 use Rattle.law_plans_sound.proofs.CallSound.{call-sound}
@@ -62,8 +62,9 @@ module _ (c : Call) (l : Lent) (step : Step) (lends : Lends c l) (goes : planFor
 
   -- a live record that took an event: by the row's timer, with the state and the RCR that it then has
   pub deadline-live : (k : TakenBy c l step) → Live (recordAt (tableLeft c l) (k .place))
-      → recordAt (tableLeft c l) (k .place) .deadline
-      ≡ deadlineBy (timerOf (rowAt (l .table) (k .place) (k .event))) (recordAt (l .table) (k .place) .deadline) (timeOf c) (settingsOf (l .table)) (intervalsOf (l .table)) (recordAt (tableLeft c l) (k .place))
+      → (recordAt (tableLeft c l) (k .place) .deadline
+      ≡ deadlineBy (timerOf (rowAt (l .table) (k .place) (k .event))) (recordAt (l .table) (k .place) .deadline) (timeOf c) (settingsOf (l .table)) (intervalsOf (l .table)) (recordAt (tableLeft c l) (k .place)))
+      × (recordAt (tableLeft c l) (k .place) .limit ≡ limitBy (timerOf (rowAt (l .table) (k .place) (k .event))) (recordAt (l .table) (k .place) .limit) (settingsOf (l .table)))
   unfolding liveStep liveTurn stepOf turnChanges changeOf
   deadline-live k live = go (eqb (stateNumber (x .state)) 0) refl
     where
@@ -83,7 +84,8 @@ module _ (c : Call) (l : Lent) (step : Step) (lends : Lends c l) (goes : planFor
       place-is = ap (λ (y : Step). y .changes .place) (k .step-is)
 
       go : (b : Bool) → eqb (stateNumber (x .state)) 0 ≡ b
-          → recordAt (tableLeft c l) (k .place) .deadline ≡ deadlineBy (timerOf (rowAt t (k .place) (k .event))) (r .deadline) (timeOf c) (settingsOf t) (intervalsOf t) (recordAt (tableLeft c l) (k .place))
+          → (recordAt (tableLeft c l) (k .place) .deadline ≡ deadlineBy (timerOf (rowAt t (k .place) (k .event))) (r .deadline) (timeOf c) (settingsOf t) (intervalsOf t) (recordAt (tableLeft c l) (k .place)))
+          × (recordAt (tableLeft c l) (k .place) .limit ≡ limitBy (timerOf (rowAt t (k .place) (k .event))) (r .limit) (settingsOf t))
       go true e =
           let free : stateNumber (recordAt (tableLeft c l) (k .place) .state) ≡ 0 =
           ap (λ (n : ℕ). stateNumber (recordAt (tableLeft c l) n .state)) (sym place-is) ∙ gone (change-is ∙ ap (λ (b : Bool). pick b Clear (Put x)) e) in
@@ -92,15 +94,14 @@ module _ (c : Call) (l : Lent) (step : Step) (lends : Lends c l) (goes : planFor
           let put : step .changes .change ≡ Put x = change-is ∙ ap (λ (b : Bool). pick b Clear (Put x)) e in
           let is : recordAt (tableLeft c l) (k .place) ≡ x = ap (λ (n : ℕ). recordAt (tableLeft c l) n) (sym place-is) ∙ there x put in
           let lives : 1 ≤ stateNumber (x .state) = omega (arith, eqb-false (stateNumber (x .state)) 0 e) in
-          let named : x .deadline ≡ deadlineBy (timerOf (rowAt t (k .place) (k .event))) (r .deadline) (timeOf c) (settingsOf t) (intervalsOf t) x =
-          row-deadline (k .given) (settingsOf t) (intervalsOf t) r (rowAt t (k .place) (k .event)) lives (small x (ranged x put))
-          ∙ ap (λ (n : ℕ). deadlineBy (timerOf (rowAt t (k .place) (k .event))) (r .deadline) n (settingsOf t) (intervalsOf t) x) (k .time) in
-          rw is named
+          let named = row-deadline (k .given) (settingsOf t) (intervalsOf t) r (rowAt t (k .place) (k .event)) lives (small x (ranged x put)) in
+          rw is (named .0 ∙ ap (λ (n : ℕ). deadlineBy (timerOf (rowAt t (k .place) (k .event))) (r .deadline) n (settingsOf t) (intervalsOf t) x) (k .time), named .1)
 
   -- a record that is opened: by the opening's timer
   pub deadline-opening : (k : ComesAlone c l step) → Live (openedTurn (l .table) (k .opening) (k .holder) (k .given) .after)
-      → recordAt (tableLeft c l) (k .holder .place) .deadline
-      ≡ deadlineBy (openingTimer (k .opening)) 0 (timeOf c) (settingsOf (l .table)) (intervalsOf (l .table)) (recordAt (tableLeft c l) (k .holder .place))
+      → (recordAt (tableLeft c l) (k .holder .place) .deadline
+      ≡ deadlineBy (openingTimer (k .opening)) 0 (timeOf c) (settingsOf (l .table)) (intervalsOf (l .table)) (recordAt (tableLeft c l) (k .holder .place)))
+      × (recordAt (tableLeft c l) (k .holder .place) .limit ≡ limitBy (openingTimer (k .opening)) 0 (settingsOf (l .table)))
   unfolding openingStep openedTurn stepOf openingChanges changeOf newRecord
   deadline-opening k live =
       let t : List ℕ = l .table in
@@ -110,10 +111,9 @@ module _ (c : Call) (l : Lent) (step : Step) (lends : Lends c l) (goes : planFor
       let put : step .changes .change ≡ Put x = change-is ∙ ap (λ (b : Bool). pick b Nothing (Put x)) other in
       let place-is : step .changes .place ≡ k .holder .place = ap (λ (y : Step). y .changes .place) (k .step-is) in
       let is : recordAt (tableLeft c l) (k .holder .place) ≡ x = ap (λ (n : ℕ). recordAt (tableLeft c l) n) (sym place-is) ∙ there x put in
-      let named : x .deadline ≡ deadlineBy (openingTimer (k .opening)) 0 (timeOf c) (settingsOf t) (intervalsOf t) x =
-      opening-deadline (k .given) (settingsOf t) (intervalsOf t) (newRecord (k .holder .peer) (k .holder .tid) (k .holder .up) (k .holder .tidnew)) (k .opening) live (small x (ranged x put))
-      ∙ ap (λ (n : ℕ). deadlineBy (openingTimer (k .opening)) 0 n (settingsOf t) (intervalsOf t) x) (k .time) in
-      rw is named
+      let named =
+      opening-deadline (k .given) (settingsOf t) (intervalsOf t) (newRecord (k .holder .peer) (k .holder .tid) (k .holder .up) (k .holder .tidnew)) (k .opening) live (small x (ranged x put)) in
+      rw is (named .0 ∙ ap (λ (n : ℕ). deadlineBy (openingTimer (k .opening)) 0 n (settingsOf t) (intervalsOf t) x) (k .time), named .1)
 
   -- nothing but the time: every record is the same
   pub records-idle : step ≡ idleStep (timeOf c) → (j : ℕ) → recordAt (tableLeft c l) j ≡ recordAt (l .table) j

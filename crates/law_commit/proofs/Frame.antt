@@ -47,7 +47,7 @@ module _ (place peer : ℕ) where
   }
 
   -- a store that meets none of these
-  stored : (t : List ℕ) (b : ℕ) (w : List ℕ) → ((j : ℕ) → (j ≡ place → ⊥) → Apart (base j) fieldsSize b (length w)) → Apart 10 82 b (length w)
+  stored : (t : List ℕ) (b : ℕ) (w : List ℕ) → ((j : ℕ) → (j ≡ place → ⊥) → Apart (base j) fieldsSize b (length w)) → Apart 10 87 b (length w)
       → ((p : ℕ) → p < peers → (p ≡ peer → ⊥) → Apart (cachedAt + p * 2) 2 b (length w)) → Same place peer t (put t b w)
   stored t b w r s c = record {
     other-records = λ j d. record-apart t b w j (r j d);

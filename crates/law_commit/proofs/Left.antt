@@ -6,7 +6,7 @@ use mathlib.Core.Bool.{Bool, true, false}
 use mathlib.Core.List.{List, [], _∷_}
 use mathlib.Core.Logic.{_⊎_, inl, inr}
 use lib.ListN.{length, getD, replicate, length-replicate}
-use Rattle.base_layout.specs.Layout.{headerSize, recordSize, fieldsSize, tidnewDueAt, headerSpare2At, cachedAt, base, exitBase}
+use Rattle.base_layout.specs.Layout.{headerSize, recordSize, fieldsSize, tidnewDueAt, headerSpareAt, cachedAt, base, exitBase}
 use Rattle.base_lists.specs.Seq.{bit, put}
 use Rattle.base_lists.proofs.StoresAndParts.{length-put}
 use Rattle.base_octets.specs.Octets.{enc, Apart}
@@ -50,7 +50,7 @@ module _ {A : Type 0} (f : List ℕ → A) (at n : ℕ) (apart : (t : List ℕ) 
   unfolding putTidnewDue
   past-due t due h = apart t tidnewDueAt (bit due ∷ []) h
 
-  past-gen-tid : (t : List ℕ) (c : GenTidChange) → headerSpare2At ≤ at → f (genTidChanged t c) ≡ f t
+  past-gen-tid : (t : List ℕ) (c : GenTidChange) → headerSpareAt ≤ at → f (genTidChanged t c) ≡ f t
   unfolding genTidChanged putGenTid
   past-gen-tid t GenTidChange.Unchanged h = refl
   past-gen-tid t (GenTidChange.Set v due) h = past-due _ due (inr (omega arith)) ∙ apart t 8 (enc 2 v) (inr (omega (arith, length-enc 2 v)))

@@ -6,7 +6,7 @@ use mathlib.Core.Logic.{_⊎_, inl, inr}
 use Prim.Native.Nat.{ℕ, _+_, _*_, _≤_, _<_}
 use native.Mathlib.Omega.{arith}
 use lib.ListN.{length, getD}
-use Rattle.base_layout.specs.Layout.{headerSize, cachedAt, tidnewDueAt, headerSpare1At, headerSpare2At, timeBound, tidBound, cachedBound, peers}
+use Rattle.base_layout.specs.Layout.{headerSize, cachedAt, tidnewDueAt, modesAt, headerSpareAt, timeBound, tidBound, cachedBound, peers}
 use Rattle.base_lists.specs.Seq.{bit, put}
 use Rattle.base_lists.proofs.StoresAndParts.{bit-le, length-put}
 use Rattle.base_octets.specs.Octets.{enc, Apart}
@@ -43,8 +43,8 @@ module _ (t : List ℕ) (at : ℕ) (w : List ℕ) where
     gen-tid = g;
     settings = rw s (f .header .settings);
     tidnew-due = rw (getD-after w t at tidnewDueAt (omega arith)) (f .header .tidnew-due);
-    spare-1 = λ k l. getD-after w t at (headerSpare1At + k) (omega arith) ∙ f .header .spare-1 k l;
-    spare-2 = λ k l. getD-after w t at (headerSpare2At + k) (omega arith) ∙ f .header .spare-2 k l;
+    modes = rw (s, getD-after w t at modesAt (omega arith)) (f .header .modes);
+    spare = λ k l. getD-after w t at (headerSpareAt + k) (omega arith) ∙ f .header .spare k l;
     rows = rw (rows-apart t at w (inr (omega arith))) (f .header .rows);
     cached = λ p l. rw (cached-apart t at w p (inr (omega arith))) (f .header .cached p l);
   }) where
@@ -58,8 +58,8 @@ module _ (t : List ℕ) (at : ℕ) (w : List ℕ) where
     gen-tid = rw (gen-tid-apart t at w (inl (omega arith))) (f .header .gen-tid);
     settings = rw s (f .header .settings);
     tidnew-due = rw (getD-before w t at tidnewDueAt (omega arith)) (f .header .tidnew-due);
-    spare-1 = λ k l. getD-before w t at (headerSpare1At + k) (omega arith) ∙ f .header .spare-1 k l;
-    spare-2 = λ k l. getD-before w t at (headerSpare2At + k) (omega arith) ∙ f .header .spare-2 k l;
+    modes = rw (s, getD-before w t at modesAt (omega arith)) (f .header .modes);
+    spare = λ k l. getD-before w t at (headerSpareAt + k) (omega arith) ∙ f .header .spare k l;
     rows = rw (rows-apart t at w (inl (omega arith))) (f .header .rows);
     cached = c;
   }) where
@@ -91,8 +91,8 @@ tidnew-due-keeps t due f =
       gen-tid = rw (gen-tid-apart t tidnewDueAt w (inl (omega arith))) (f .header .gen-tid);
       settings = rw s (f .header .settings);
       tidnew-due = rw octet (bit-le due);
-      spare-1 = λ k l. getD-before w t tidnewDueAt (headerSpare1At + k) (omega arith) ∙ f .header .spare-1 k l;
-      spare-2 = λ k l. getD-after w t tidnewDueAt (headerSpare2At + k) (omega arith) ∙ f .header .spare-2 k l;
+      modes = rw (s, getD-before w t tidnewDueAt modesAt (omega arith)) (f .header .modes);
+      spare = λ k l. getD-after w t tidnewDueAt (headerSpareAt + k) (omega arith) ∙ f .header .spare k l;
       rows = rw (rows-apart t tidnewDueAt w (inl (omega arith))) (f .header .rows);
       cached = λ p l. rw (cached-apart t tidnewDueAt w p (inr (omega arith))) (f .header .cached p l);
     })

@@ -8,7 +8,7 @@ use native.Mathlib.Omega.{arith}
 use lib.ListN.{length, getD}
 use lib.Dec.{eqb}
 use borrow.Author.Tests.{eqb-true, eqb-false}
-use Rattle.base_layout.specs.Layout.{headerSize, recordSize, fieldsSize, tidnewDueAt, headerSpare1At, headerSpare2At, base, spareBase}
+use Rattle.base_layout.specs.Layout.{headerSize, recordSize, fieldsSize, modesAt, tidnewDueAt, headerSpareAt, base, spareBase}
 use Rattle.base_lists.specs.Seq.{put}
 use Rattle.base_lists.proofs.StoresAndParts.{told, length-put}
 use Rattle.base_octets.specs.Octets.{Apart}
@@ -55,8 +55,8 @@ module _ (t : List ℕ) (i at : ℕ) (w : List ℕ) (low : base i ≤ at) (high 
     gen-tid = rw (gen-tid-apart t at w (inl (omega arith))) (h .gen-tid);
     settings = rw settings-stand (h .settings);
     tidnew-due = rw (getD-before w t at tidnewDueAt (omega arith)) (h .tidnew-due);
-    spare-1 = λ k l. getD-before w t at (headerSpare1At + k) (omega arith) ∙ h .spare-1 k l;
-    spare-2 = λ k l. getD-before w t at (headerSpare2At + k) (omega arith) ∙ h .spare-2 k l;
+    modes = rw (settings-stand, getD-before w t at modesAt (omega arith)) (h .modes);
+    spare = λ k l. getD-before w t at (headerSpareAt + k) (omega arith) ∙ h .spare k l;
     rows = rw (rows-apart t at w (inl (omega arith))) (h .rows);
     cached = λ p l. rw (cached-apart t at w p (inl (omega arith))) (h .cached p l);
   }

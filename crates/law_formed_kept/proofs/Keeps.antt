@@ -27,7 +27,7 @@ use Rattle.law_formed_kept.proofs.InRecord.{store-keeps}
 
 -- a record in range has room in its octets
 pub range-fits : (s : Settings) (r : Record) → InRange s r → Fits r
-range-fits s r h = record { tid = omega (arith, h .bounds); deadline = omega (arith, h .bounds); len = omega (arith, h .bounds) }
+range-fits s r h = record { tid = omega (arith, h .bounds); deadline = omega (arith, h .bounds); len = omega (arith, h .bounds); limit = omega (arith, h .bounds) }
 
 -- the spare octets of any record of a well-formed table are zero
 spare-of : (t : List ℕ) (i : ℕ) → RecordOk t (settingsOf t) i → Zeros t (spareBase i) spareSize

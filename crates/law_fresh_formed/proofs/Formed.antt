@@ -42,8 +42,8 @@ module _ (ws : List ℕ) (first : ℕ) (a : AllInRange ws first) where
       gen-tid = omega (arith, f .gen-tid, a .gen-tid);
       settings = settings-ok;
       tidnew-due = omega (arith, f .tidnew-due);
-      spare-1 = λ k h. f .spare-1 (92 + k) (omega arith) (omega arith);
-      spare-2 = λ k h. f .spare-2 (98 + k) (omega arith);
+      modes = rw (f .modes, f .settings) (a .modes);
+      spare = λ k h. f .spare (98 + k) (omega arith);
       rows = rw (f .rows) rows-ok;
       cached = λ peer h. omega (arith, f .cached peer);
     }

@@ -1,9 +1,9 @@
 -- The layout and the bounds once more: where each field begins, by the octets of those before it, and each bound by what it comes from.
 use Prim.Native.Nat.{ℕ, _+_, _*_}
 use mathlib.Core.Path.{_≡_}
-use Rattle.base_layout.specs.Layout.{headerSize, recordSize, clockAt, genTidAt, rcrMaxAt, aecMaxAt, aAt, wAt, row1At, row2At, headerSpare1At, headerSpare1Size, tidnewDueAt, headerSpare2At, headerSpare2Size, cachedAt, peerOffset, tidOffset, rcrOffset, aecOffset, flagsOffset, exitLenOffset, deadlineOffset, lenOffset, spareOffset, spareSize, exitOffset, exitBound, timeBound, intervalBound, deadlineBound, tidBound, tidCount, cachedBound, peerBound, peers, cellSize, outputLeast, stateBound, flagsBound}
+use Rattle.base_layout.specs.Layout.{headerSize, recordSize, clockAt, genTidAt, rcrMaxAt, aecMaxAt, aAt, wAt, row1At, row2At, limitAt, modesAt, tidnewDueAt, headerSpareAt, headerSpareSize, cachedAt, peerOffset, tidOffset, rcrOffset, aecOffset, flagsOffset, exitLenOffset, deadlineOffset, lenOffset, limitOffset, spareOffset, spareSize, exitOffset, exitBound, timeBound, intervalBound, deadlineBound, tidBound, tidCount, cachedBound, peerBound, peers, cellSize, outputLeast, stateBound, flagsBound}
 
--- docs/TABLE.md, the header: clock 8 octets, GenTID 2, RCR_MAX 1, AEC_MAX 1, A 4, W 4, two rows of nine intervals of 4, spare, TIDnew due 1, spare, 256 cached TIDs of 2
+-- docs/TABLE.md, the header: clock 8 octets, GenTID 2, RCR_MAX 1, AEC_MAX 1, A 4, W 4, two rows of nine intervals of 4, the waiting limit 4, modes 1, TIDnew due 1, spare, 256 cached TIDs of 2
 pub record HeaderAdds : Type 0 where
   pub gen-tid : genTidAt ≡ clockAt + 8
   pub rcr-max : rcrMaxAt ≡ genTidAt + 2
@@ -12,13 +12,14 @@ pub record HeaderAdds : Type 0 where
   pub w : wAt ≡ aAt + 4
   pub row-1 : row1At ≡ wAt + 4
   pub row-2 : row2At ≡ row1At + 9 * 4
-  pub spare-1 : headerSpare1At ≡ row2At + 9 * 4
-  pub tidnew-due : tidnewDueAt ≡ headerSpare1At + headerSpare1Size
-  pub spare-2 : headerSpare2At ≡ tidnewDueAt + 1
-  pub cached : cachedAt ≡ headerSpare2At + headerSpare2Size
+  pub limit : limitAt ≡ row2At + 9 * 4
+  pub modes : modesAt ≡ limitAt + 4
+  pub tidnew-due : tidnewDueAt ≡ modesAt + 1
+  pub spare : headerSpareAt ≡ tidnewDueAt + 1
+  pub cached : cachedAt ≡ headerSpareAt + headerSpareSize
   pub whole : headerSize ≡ cachedAt + peers * 2
 
--- docs/TABLE.md, a record: state 1 octet, peer 1, TID 2, RCR 1, AEC 1, flags 1, length of the exit information 1, deadline 8, length of the message 4, spare, exit information
+-- docs/TABLE.md, a record: state 1 octet, peer 1, TID 2, RCR 1, AEC 1, flags 1, length of the exit information 1, deadline 8, length of the message 4, waiting limit in force 4, spare, exit information
 pub record RecordAdds : Type 0 where
   pub peer : peerOffset ≡ 1
   pub tid : tidOffset ≡ peerOffset + 1
@@ -28,7 +29,8 @@ pub record RecordAdds : Type 0 where
   pub exit-len : exitLenOffset ≡ flagsOffset + 1
   pub deadline : deadlineOffset ≡ exitLenOffset + 1
   pub len : lenOffset ≡ deadlineOffset + 8
-  pub spare : spareOffset ≡ lenOffset + 4
+  pub limit : limitOffset ≡ lenOffset + 4
+  pub spare : spareOffset ≡ limitOffset + 4
   pub exit : exitOffset ≡ spareOffset + spareSize
   pub whole : recordSize ≡ exitOffset + exitBound
 

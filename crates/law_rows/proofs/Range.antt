@@ -34,7 +34,7 @@ use Rattle.row_columns.specs.declared.ExitInfo.the-variants as ExitInfo
 use Rattle.row_columns.specs.declared.Act.{Act}
 use Rattle.row_entries.specs.Acts.{actOf, openingAct}
 use Rattle.table_tids.specs.Tids.{intervalOf}
-use Rattle.row_turns.specs.Turns.{upOf, rcrAfter, aecAfter, exitLenAfter, lenAfter, deadlineAfter, newRecord, movedTo, recordAfter, turnOf, rowTurn, openingTurn}
+use Rattle.row_turns.specs.Turns.{upOf, rcrAfter, aecAfter, exitLenAfter, lenAfter, stoppedAt, deadlineAfter, limitAfter, newRecord, movedTo, recordAfter, turnOf, rowTurn, openingTurn}
 use Rattle.row_turns.specs.declared.Given.{Given}
 use Rattle.law_rows.specs.Shown.{actAt, livingState}
 use Rattle.table_record_ok.specs.OneRecord.{tidnewBound, Bounded}
@@ -111,17 +111,32 @@ module _ (g : Given) (s : Settings) (rows : List (List ℕ)) (within : Within g 
       go true = within .intervals 0 (n .0 % 9) (omega arith) (omega arith)
       go false = within .intervals 1 (n .0 % 9) (omega arith) (omega arith)
 
+  stopped-within : (limit : ℕ) → limit ≤ intervalBound → stoppedAt (g .time) limit ≤ deadlineBound
+  unfolding stoppedAt
+  stopped-within limit h = go (eqb limit 0)
+    where
+      go : (b : Bool) → pick b 0 (g .time + limit) ≤ deadlineBound
+      go true = omega arith
+      go false = omega (arith, within .time)
+
   deadline-within : (t : Timer) (was r : ℕ) → was ≤ deadlineBound → r ≤ intervalBound → deadlineAfter t was (g .time) s r ≤ deadlineBound
   deadline-within Timer.Runs was r h k = h
-  deadline-within Timer.Stop was r h k = omega arith
+  deadline-within Timer.Stop was r h k = stopped-within (s .limit) (within .limit)
   deadline-within Timer.A was r h k = omega (arith, within .time, within .a)
   deadline-within Timer.W was r h k = omega (arith, within .time, within .w)
   deadline-within Timer.R was r h k = omega (arith, within .time)
 
+  limit-within : (t : Timer) (was : ℕ) → was ≤ intervalBound → limitAfter t was (s .limit) ≤ intervalBound
+  limit-within Timer.Runs was h = h
+  limit-within Timer.Stop was h = within .limit
+  limit-within Timer.A was h = omega arith
+  limit-within Timer.W was h = omega arith
+  limit-within Timer.R was h = omega arith
+
   pub new-in-range : (peer tid : ℕ) (userAck tidnew : Bool) → peer < peers → tid ≤ tidBound → Bounded s (newRecord peer tid userAck tidnew)
   unfolding newRecord
   new-in-range peer tid userAck tidnew p t =
-      record { tid = t; rcr = omega arith; aec = omega arith; exit = omega arith; deadline = omega arith; message = omega arith; tidnew = bit-le tidnew; peer = p }
+      record { tid = t; rcr = omega arith; aec = omega arith; exit = omega arith; deadline = omega arith; message = omega arith; tidnew = bit-le tidnew; limit = omega arith; peer = p }
 
   module _ (r : Record) (a : Act) (ok : Bounded s r) (counts : allowed (a .count) (ltb (r .rcr .0) (s .«rcr_max»)) (ltb (r .aec .0) (s .«aec_max»)) ≡ true) where
     moved-in-range : (state : State) → bit (r .tidnew) ≤ tidnewBound (roleOf state) → Bounded s (movedTo state a r g s rows)
@@ -134,6 +149,7 @@ module _ (g : Given) (s : Settings) (rows : List (List ℕ)) (within : Within g 
       deadline = deadline-within (a .timer) (r .deadline) (intervalOf rows (classOf state) (rcrAfter (a .count) (r .rcr))) (ok .deadline) (interval-within (classOf state) (rcrAfter (a .count) (r .rcr)));
       message = len-within (a .cell) (r .len) (g .len) (ok .message) (within .len);
       tidnew = tidnew;
+      limit = limit-within (a .timer) (r .limit) (ok .limit);
       peer = ok .peer;
     }
 

@@ -13,4 +13,6 @@ pub record Within (g : Given) (s : Settings) (rows : List (List ℕ)) : Type 0 w
   pub exitLen : g .«exit_len» ≤ exitBound
   pub a : s .a ≤ intervalBound
   pub w : s .w ≤ intervalBound
+  -- 02, L6: "a waiting limit, 1 to 86,400,000", or none
+  pub limit : s .limit ≤ intervalBound
   pub intervals : (i n : ℕ) → i < 2 → n < 9 → getD (getD rows i []) n 0 ≤ intervalBound

@@ -21,12 +21,12 @@ column f n = tab f n 0
 at-number : {A : Type 0} (f g : ℕ → A) (n : ℕ) → column f n ≡ column g n → (k : ℕ) → k < n → f k ≡ g k
 at-number f g n e k h = rw (zero-add k) at (sym (getD-tab f n 0 k (f 0) h) ∙ ap (λ l. getD l k (f 0)) e ∙ getD-tab g n 0 k (f 0) h)
 
-pub at-each-row : {A : Type 0} (f g : Row → A) → column (λ k. f (rowNumbered k)) 33 ≡ column (λ k. g (rowNumbered k)) 33 → (x : Row) → f x ≡ g x
+pub at-each-row : {A : Type 0} (f g : Row → A) → column (λ k. f (rowNumbered k)) 36 ≡ column (λ k. g (rowNumbered k)) 36 → (x : Row) → f x ≡ g x
 unfolding every
 at-each-row f g e x =
     let known : rowNumbered (rowNumber x) ≡ x = same-row (rowNumbered (rowNumber x)) x (at-row (λ y. sameRow (rowNumbered (rowNumber y)) y) refl x) in
-    let small : rowNumber x < 33 = ltb-true (rowNumber x) 33 (at-row (λ y. ltb (rowNumber y) 33) refl x) in
-    ap f (sym known) ∙ at-number (λ k. f (rowNumbered k)) (λ k. g (rowNumbered k)) 33 e (rowNumber x) small ∙ ap g known
+    let small : rowNumber x < 36 = ltb-true (rowNumber x) 36 (at-row (λ y. ltb (rowNumber y) 36) refl x) in
+    ap f (sym known) ∙ at-number (λ k. f (rowNumbered k)) (λ k. g (rowNumbered k)) 36 e (rowNumber x) small ∙ ap g known
 
 pub at-each-opening : {A : Type 0} (f g : Opening → A) → column (λ k. f (openingNumbered k)) 16 ≡ column (λ k. g (openingNumbered k)) 16 → (x : Opening) → f x ≡ g x
 unfolding every

@@ -1,12 +1,12 @@
 -- The deadline that a row leaves is now and the interval that document 01 names, and so is an opening's. Assumes nothing.
-use Prim.Native.Nat.{ℕ, _+_, _-_, _≤_, _%_}
+use Prim.Native.Nat.{ℕ, zero, suc, _+_, _-_, _≤_, _%_}
 use native.Mathlib.Omega.{arith}
 use mathlib.Core.Path.{_≡_, refl, ap}
 use mathlib.Core.Bool.{Bool, true, false}
 use mathlib.Core.List.{List, []}
 use lib.ListN.{getD}
-use lib.Dec.{eqb}
-use borrow.Author.Tests.{eqb-true}
+use lib.Dec.{ltb, eqb}
+use borrow.Author.Tests.{eqb-true, ne-eqb, lt-ltb}
 use Rattle.base_lists.specs.Seq.{pick, every}
 use Rattle.table_record.specs.Record.{classOf, stateNumber, stateOf}
 use Rattle.table_record.specs.declared.State.{State}
@@ -24,7 +24,7 @@ use Rattle.row_columns.specs.declared.Timer.{Timer}
 use Rattle.row_columns.specs.declared.Timer.the-variants as Timer
 use Rattle.row_columns.specs.declared.Act.{Act}
 use Rattle.row_entries.specs.Acts.{actOf, openingAct}
-use Rattle.row_turns.specs.Turns.{newRecord, movedTo, recordAfter, turnOf, rowTurn, openingTurn}
+use Rattle.row_turns.specs.Turns.{stoppedAt, newRecord, movedTo, recordAfter, turnOf, rowTurn, openingTurn}
 use Rattle.row_turns.specs.declared.Given.{Given}
 use Rattle.law_rows_done.specs.LiveRows.{documentAct}
 use Rattle.law_rows_done.specs.OpeningRows.{documentOpeningAct}
@@ -35,7 +35,7 @@ use Rattle.law_rows_done.proofs.SameActs.{acts-are-listed, opening-acts
 row-of-class : (s : State) → 1 ≤ stateNumber s → rowNumber (classOf s) ≡ classOf s - 1
 unfolding every stateOf
 row-of-class s live =
-    go (eqb (stateNumber s) 0) refl (at-state (λ x e c. pick (eqb (stateNumber x) 0) true (eqb (rowNumber (classOf x)) (classOf x - 1))) refl s Event.Timer (record { more = false; mark = false }))
+    go (eqb (stateNumber s) 0) refl (at-state (λ x e c. pick (eqb (stateNumber x) 0) true (eqb (rowNumber (classOf x)) (classOf x - 1))) refl s Event.Timer (record { more = false; mark = false; limited = false }))
   where
     go : (b : Bool) → eqb (stateNumber s) 0 ≡ b → pick b true (eqb (rowNumber (classOf s)) (classOf s - 1)) ≡ true → rowNumber (classOf s) ≡ classOf s - 1
     go true e h = absurd (omega (arith, live, eqb-true (stateNumber s) 0 e))
@@ -47,14 +47,20 @@ interval-named rows s rcr live small =
     let n : rcr .0 % 9 ≡ rcr .0 = omega arith in
     rw (row-of-class s live, n) refl
 
+-- no limit, or one of the settings
+stopped : (time limit : ℕ) → stoppedAt time limit ≡ pick (ltb 0 limit) (time + limit) 0
+unfolding stoppedAt
+stopped time zero = refl
+stopped time (suc n) = rw (ne-eqb (suc n) 0 (λ (e : suc n ≡ 0). omega arith), lt-ltb 0 (suc n) (omega arith)) refl
+
 module _ (g : Given) (s : Settings) (rows : List (List ℕ)) (r : Record) where
   moved-named : (a : Act) (state : State) (timer : Timer) → a .timer ≡ timer → Named g s rows r timer (movedTo state a r g s rows)
   unfolding movedTo
-  moved-named a state Timer.Runs e live small = rw e refl
-  moved-named a state Timer.Stop e live small = rw e refl
-  moved-named a state Timer.A e live small = rw e refl
-  moved-named a state Timer.W e live small = rw e refl
-  moved-named a state Timer.R e live small = rw e (ap (λ n. g .time + n) (interval-named rows state _ live small))
+  moved-named a state Timer.Runs e live small = rw e (refl, refl)
+  moved-named a state Timer.Stop e live small = rw e (stopped (g .time) (s .limit), refl)
+  moved-named a state Timer.A e live small = rw e (refl, refl)
+  moved-named a state Timer.W e live small = rw e (refl, refl)
+  moved-named a state Timer.R e live small = rw e (ap (λ n. g .time + n) (interval-named rows state _ live small), refl)
 
   after-named : (a : Act) (next : Next) (timer : Timer) → a .timer ≡ timer → Named g s rows r timer (recordAfter next a r g s rows)
   unfolding recordAfter newRecord

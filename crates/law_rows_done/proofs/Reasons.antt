@@ -31,7 +31,7 @@ module _ (kind reason : ℕ) where
       named row (act tidok row .first) (act tidok row) e
       (at-each-row (λ x. abortOr x (act tidok x .first) (act tidok x)) (λ x. abortBy x kind reason (act tidok x .send)) (computed tidok) row)
     where
-      computed : (t : Bool) → column (λ k. abortOr (rowNumbered k) (act t (rowNumbered k) .first) (act t (rowNumbered k))) 33 ≡ column (λ k. abortBy (rowNumbered k) kind reason (act t (rowNumbered k) .send)) 33
+      computed : (t : Bool) → column (λ k. abortOr (rowNumbered k) (act t (rowNumbered k) .first) (act t (rowNumbered k))) 36 ≡ column (λ k. abortBy (rowNumbered k) kind reason (act t (rowNumbered k) .send)) 36
       computed true = refl
       computed false = refl
 
@@ -40,6 +40,6 @@ module _ (kind reason : ℕ) where
   unfolding tab actOf actWith taken acked stored shown
   second-no-abort row tidok = at-each-row (λ x. isAbort (act tidok x .second)) (λ x. false) (computed tidok) row
     where
-      computed : (t : Bool) → column (λ k. isAbort (act t (rowNumbered k) .second)) 33 ≡ column (λ k. false) 33
+      computed : (t : Bool) → column (λ k. isAbort (act t (rowNumbered k) .second)) 36 ≡ column (λ k. false) 36
       computed true = refl
       computed false = refl

@@ -17,7 +17,7 @@ pub acts-are-listed : (row : Row) (tidok : Bool) (kind reason : ℕ) → actOf r
 unfolding tab actOf actWith taken acked stored shown documentAct
 acts-are-listed row tidok kind reason = at-each-row (λ x. actOf x tidok kind reason) (λ x. documentAct x tidok kind reason) (computed tidok) row
   where
-    computed : (t : Bool) → column (λ k. actOf (rowNumbered k) t kind reason) 33 ≡ column (λ k. documentAct (rowNumbered k) t kind reason) 33
+    computed : (t : Bool) → column (λ k. actOf (rowNumbered k) t kind reason) 36 ≡ column (λ k. documentAct (rowNumbered k) t kind reason) 36
     computed true = refl
     computed false = refl
 

@@ -3,6 +3,7 @@ use Prim.Native.Nat.{ℕ, _+_, _-_, _≤_}
 use mathlib.Core.Path.{_≡_}
 use mathlib.Core.List.{List, []}
 use lib.ListN.{getD}
+use lib.Dec.{ltb}
 use Rattle.base_lists.specs.Seq.{pick}
 use Rattle.table_record.specs.Record.{classOf, stateNumber}
 use Rattle.table_record.specs.declared.Record.{Record}
@@ -35,18 +36,26 @@ openingTimer opening = listed sameOpening Opening.timerLines opening Timer.Runs
 abbrev pub intervalR : List (List ℕ) → Record → ℕ
 intervalR rows after = getD (getD rows (classOf (after .state) - 1) []) (after .rcr .0) 0
 
--- the deadline of a record: now and the interval that is named; "stop timer", "no timer" is none; else as it was
+-- the deadline of a record: now and the interval that is named; "stop timer", "no timer" is none, and with the mode on (02, L6) now and the waiting limit of the settings; else as it was
 abbrev pub deadlineBy : Timer → (was now : ℕ) → Settings → List (List ℕ) → Record → ℕ
 deadlineBy Timer.Runs was now s rows after = was
-deadlineBy Timer.Stop was now s rows after = 0
+deadlineBy Timer.Stop was now s rows after = pick (ltb 0 (s .limit)) (now + s .limit) 0
 deadlineBy Timer.A was now s rows after = now + s .a
 deadlineBy Timer.W was now s rows after = now + s .w
 deadlineBy Timer.R was now s rows after = now + intervalR rows after
 
--- the deadline of the record that a turn leaves live is the one that is named, whatever came with the event
+-- 02, L6: the waiting limit that is the deadline: that of the settings where a row stops the timer or starts none, none where it starts A, W or R; else as it was
+abbrev pub limitBy : Timer → (was : ℕ) → Settings → ℕ
+limitBy Timer.Runs was s = was
+limitBy Timer.Stop was s = s .limit
+limitBy Timer.A was s = 0
+limitBy Timer.W was s = 0
+limitBy Timer.R was s = 0
+
+-- deadline and waiting limit of the record that a turn leaves live are those that are named, whatever came with the event
 abbrev pub Named : Given → Settings → List (List ℕ) → (before : Record) → Timer → (after : Record) → Type 0
 Named g s rows before timer after =
-    1 ≤ stateNumber (after .state) → after .rcr .0 ≤ 8 → after .deadline ≡ deadlineBy timer (before .deadline) (g .time) s rows after
+    1 ≤ stateNumber (after .state) → after .rcr .0 ≤ 8 → (after .deadline ≡ deadlineBy timer (before .deadline) (g .time) s rows after) × (after .limit ≡ limitBy timer (before .limit) s)
 
 -- what document 01 counts in a row
 abbrev pub countOf : Row → Count

@@ -6,7 +6,7 @@ use Rattle.base_lists.specs.Seq.{pick}
 use Rattle.table_record.specs.declared.State.the-variants.{IResultRespWait, IWaitTimeout, RInvokeRespWait1, RInvokeRespWait2, RResultWait, RResultRespWait, RWaitTimeout}
 use Rattle.row_events.specs.Events.{sameRow}
 use Rattle.row_events.specs.declared.Row.{Row}
-use Rattle.row_events.specs.declared.Row.the-variants.{PeerAborts, Malformed, UserAborts, PeerAbortsUnseen, MalformedUnseen, TidokSent, Confirmed, HeldOn, Resent, GivenUp, ResultUnsupported, ResultConfirms, ResultTaken, ResultAnswered, ResultAcked, UserAwaited, UserSilent, ResultSeenAgain, TimeoutEnds, Verified1, Verified2, TidveRepeated, InvokeAnswered, InvokeAcked, UserWorks, HoldOnSent, ResultSent, HoldOnRepeated, ResultResent, InvokeSeenAgain, TidokSeenAgain}
+use Rattle.row_events.specs.declared.Row.the-variants.{PeerAborts, Malformed, UserAborts, PeerAbortsUnseen, MalformedUnseen, TidokSent, Confirmed, HeldOn, Resent, GivenUp, ResultUnsupported, ResultConfirms, ResultTaken, ResultAnswered, ResultAcked, UserAwaited, UserSilent, ResultSeenAgain, TimeoutEnds, Verified1, Verified2, TidveRepeated, InvokeAnswered, InvokeAcked, UserWorks, HoldOnSent, ResultSent, HoldOnRepeated, ResultResent, InvokeSeenAgain, TidokSeenAgain, TidokWaitEnds, HeldOnWaitEnds, ResultWaitEnds}
 use Rattle.row_columns.specs.declared.Next.{Next}
 use Rattle.row_columns.specs.declared.Next.the-variants.{Stays, Ends, Goes}
 use Rattle.row_columns.specs.declared.Timer.{Timer}
@@ -56,6 +56,8 @@ nextLines =
     (HoldOnSent ∷ [], Goes RResultWait) ∷
     -- "Either wait, class 2, user result: RCR 0, send Result, timer R[0], RESULT RESP WAIT"
     (ResultSent ∷ [], Goes RResultRespWait) ∷
+    -- 02, L6: "At its end TIDOK WAIT ends silently, the held-on wait [..] ends, and the responder's RESULT WAIT [..] ends"
+    (TidokWaitEnds ∷ HeldOnWaitEnds ∷ ResultWaitEnds ∷ [], Ends) ∷
     []
 
 -- the timer that is started, or stopped
@@ -161,6 +163,8 @@ sendLines tidok octet =
     (ResultResent ∷ [], Send.Result rid) ∷
     -- "Invoke with RID: Ack again", and 002, 9.6, where document 01 is silent: "RcvAck | TIDok, RID=1 | Send Ack PDU"
     (InvokeSeenAgain ∷ TidokSeenAgain ∷ [], Send.LastAck rid) ∷
+    -- 02, L6: "the responder's RESULT WAIT sends Abort 8"
+    (ResultWaitEnds ∷ [], abort 8) ∷
     []
 
 -- what is indicated, or indicated first; `kind` and `reason` are those of a received Abort
@@ -184,6 +188,8 @@ firstLines kind reason =
     (UserSilent ∷ [], Indication.Abort 0 8) ∷
     -- "TIDok: as valid", which is "indicate"; "the store serves an Invoke shown after verification"
     (Verified1 ∷ Verified2 ∷ [], Indication.Invoke true) ∷
+    -- 02, L6: "the held-on wait indicates an abort", "the responder's RESULT WAIT [..] indicates an abort"
+    (HeldOnWaitEnds ∷ ResultWaitEnds ∷ [], Indication.Abort 0 8) ∷
     []
 
 -- what is indicated second

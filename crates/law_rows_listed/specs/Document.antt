@@ -10,7 +10,7 @@ use Rattle.row_events.specs.declared.Event.{Event}
 use Rattle.row_events.specs.declared.Event.the-variants.{InvokeRid, ResultCut, ResultCutRid, Result, ResultRid, PlainAck, TidAck, TidAckRid, ReceivedAbort, MalformedPdu, UserAnswer, UserResult, UserAbort, Timer}
 use Rattle.row_events.specs.declared.Conditions.{Conditions}
 use Rattle.row_events.specs.declared.Row.{Row}
-use Rattle.row_events.specs.declared.Row.the-variants.{Ignored, NotAllowed, PeerAborts, Malformed, UserAborts, PeerAbortsUnseen, MalformedUnseen, TidokSent, Confirmed, HeldOn, Resent, GivenUp, ResultUnsupported, ResultConfirms, ResultTaken, ResultAnswered, ResultAcked, UserAwaited, UserSilent, ResultSeenAgain, TimeoutEnds, Verified1, Verified2, TidveRepeated, InvokeAnswered, InvokeAcked, UserWorks, HoldOnSent, ResultSent, HoldOnRepeated, ResultResent, InvokeSeenAgain, TidokSeenAgain}
+use Rattle.row_events.specs.declared.Row.the-variants.{Ignored, NotAllowed, PeerAborts, Malformed, UserAborts, PeerAbortsUnseen, MalformedUnseen, TidokSent, Confirmed, HeldOn, Resent, GivenUp, ResultUnsupported, ResultConfirms, ResultTaken, ResultAnswered, ResultAcked, UserAwaited, UserSilent, ResultSeenAgain, TimeoutEnds, Verified1, Verified2, TidveRepeated, InvokeAnswered, InvokeAcked, UserWorks, HoldOnSent, ResultSent, HoldOnRepeated, ResultResent, InvokeSeenAgain, TidokSeenAgain, TidokWaitEnds, HeldOnWaitEnds, ResultWaitEnds}
 
 -- a line of the document: what comes, under which condition, which row
 pub record Line : Type 0 where
@@ -143,7 +143,7 @@ rWaitTimeout =
     line (only Timer) true TimeoutEnds ∷
     []
 
--- the lines for each state; a free record has none
+-- 01's lines for each state; a free record has none
 abbrev pub lines : State → Conditions → List Line
 lines Free c = []
 lines IResultWait1 c = abortRow true ++ iResultWait false c
@@ -172,5 +172,24 @@ found [] e = unlisted e
 found (x ∷ l) e = pick (x .when && among e (x .events)) (x .row) (found l e)
 
 -- the row that document 01 gives
+unfoldable pub baseRow : State → Event → Conditions → Row
+baseRow s e c = found (lines s c) e
+
+-- 02, L6: "At its end TIDOK WAIT ends silently, the held-on wait indicates an abort and ends, and the responder's RESULT WAIT sends Abort 8, indicates an abort and ends."
+abbrev pub limitLines : State → List Line
+limitLines Free = []
+limitLines IResultWait1 = []
+limitLines IResultWait2 = line (only Timer) true HeldOnWaitEnds ∷ []
+limitLines IResultRespWait = []
+limitLines IWaitTimeout = []
+limitLines RTidokWait1 = line (only Timer) true TidokWaitEnds ∷ []
+limitLines RTidokWait2 = line (only Timer) true TidokWaitEnds ∷ []
+limitLines RInvokeRespWait1 = []
+limitLines RInvokeRespWait2 = []
+limitLines RResultWait = line (only Timer) true ResultWaitEnds ∷ []
+limitLines RResultRespWait = []
+limitLines RWaitTimeout = []
+
+-- the row that the documents give: document 01's, unless the deadline is a waiting limit
 unfoldable pub documentRow : State → Event → Conditions → Row
-documentRow s e c = found (lines s c) e
+documentRow s e c = found (pick (c .limited) (limitLines s ++ lines s c) (lines s c)) e

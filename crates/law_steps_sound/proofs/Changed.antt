@@ -24,6 +24,7 @@ use Rattle.row_columns.specs.declared.Cache.{Cache}
 use Rattle.row_columns.specs.declared.Cache.the-variants as Cache
 use Rattle.row_entries.specs.Acts.{openingAct}
 use Rattle.law_rows.specs.Shown.{livingState}
+use Rattle.table_ranges.proofs.Modes.{limit-most}
 use Rattle.law_rows.specs.Range.{Within}
 use Rattle.law_rows.specs.Transaction.{FreedOrSame}
 use Rattle.law_rows.proofs.Range.{new-in-range, turn-in-range, opening-in-range}
@@ -52,6 +53,7 @@ within t g w ok = record {
   exitLen = ok .exit-len;
   a = w .header .settings .interval-a .most;
   w = w .header .settings .interval-w .most;
+  limit = limit-most (w .header .modes);
   intervals = λ i n h k. w .header .rows i n h k .most;
 }
 

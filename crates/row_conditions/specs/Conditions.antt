@@ -1,6 +1,7 @@
 -- What the rows ask of a record beside its state (01, "Events").
 use mathlib.Core.Bool.{Bool, false}
 use lib.Dec.{ltb}
+use Rattle.base_lists.specs.Seq.{pick}
 use Rattle.table_record.specs.declared.State.{State}
 use Rattle.table_record.specs.declared.State.the-variants.{Free, IResultWait1, IResultWait2, IResultRespWait, IWaitTimeout, RTidokWait1, RTidokWait2, RInvokeRespWait1, RInvokeRespWait2, RResultWait, RResultRespWait, RWaitTimeout}
 use Rattle.table_record.specs.declared.Record.{Record}
@@ -37,9 +38,25 @@ markOf RResultWait holdOn userAck holdOnSent = holdOnSent
 markOf RResultRespWait holdOn userAck holdOnSent = false
 markOf RWaitTimeout holdOn userAck holdOnSent = false
 
--- both, of a record in its state
+-- 02, L6: whether "it is then the deadline" in one of the waits that have an end of it: "TIDOK WAIT", "the held-on wait" and "the responder's RESULT WAIT" after its hold-on
+abbrev pub limitedOf : State → Bool → Bool → Bool → Bool
+limitedOf Free holdOn holdOnSent limit = false
+limitedOf IResultWait1 holdOn holdOnSent limit = false
+limitedOf IResultWait2 holdOn holdOnSent limit = pick holdOn limit false
+limitedOf IResultRespWait holdOn holdOnSent limit = false
+limitedOf IWaitTimeout holdOn holdOnSent limit = false
+limitedOf RTidokWait1 holdOn holdOnSent limit = limit
+limitedOf RTidokWait2 holdOn holdOnSent limit = limit
+limitedOf RInvokeRespWait1 holdOn holdOnSent limit = false
+limitedOf RInvokeRespWait2 holdOn holdOnSent limit = false
+limitedOf RResultWait holdOn holdOnSent limit = pick holdOnSent limit false
+limitedOf RResultRespWait holdOn holdOnSent limit = false
+limitedOf RWaitTimeout holdOn holdOnSent limit = false
+
+-- all three, of a record in its state
 unfoldable pub conditionsOf : Settings → Record → Conditions
 conditionsOf s r = record {
   more = moreOf (r .state) (ltb (r .rcr .0) (s .«rcr_max»)) (ltb (r .aec .0) (s .«aec_max»));
   mark = markOf (r .state) (r .«hold_on») (r .«user_ack») (r .«hold_on_sent»);
+  limited = limitedOf (r .state) (r .«hold_on») (r .«hold_on_sent») (ltb 0 (r .limit));
 }

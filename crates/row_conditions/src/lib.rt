@@ -1,6 +1,6 @@
 // What the rows ask of a record beside its state.
 ghost use mathlib.Core.Path.{_≡_};
-ghost use Rattle.row_conditions.specs.Conditions.{moreOf, markOf, conditionsOf};
+ghost use Rattle.row_conditions.specs.Conditions.{moreOf, markOf, limitedOf, conditionsOf};
 use row_events::Conditions;
 use table_layout::Settings;
 use table_record::Record;
@@ -46,6 +46,26 @@ fn mark_of(state: State, held: bool, acked: bool, sent: bool) -> bool
     }
 }
 
+// Whether the deadline is a waiting limit: in TIDOK WAIT, held on, and after a hold-on of ours.
+fn limited_of(state: State, held: bool, sent: bool, limit: bool) -> bool
+    ensures { λ b. ⌜ b ≡ limitedOf state held sent limit ⌝ }
+{
+    match state {
+        State::Free => false,
+        State::IResultWait1 => false,
+        State::IResultWait2 => { if held { limit } else { false } }
+        State::IResultRespWait => false,
+        State::IWaitTimeout => false,
+        State::RTidokWait1 => limit,
+        State::RTidokWait2 => limit,
+        State::RInvokeRespWait1 => false,
+        State::RInvokeRespWait2 => false,
+        State::RResultWait => { if sent { limit } else { false } }
+        State::RResultRespWait => false,
+        State::RWaitTimeout => false,
+    }
+}
+
 // The conditions of a record in its state.
 pub fn conditions_of(s: Settings, r: Record) -> Conditions
     ensures { λ c. ⌜ c ≡ conditionsOf s r ⌝ }
@@ -53,8 +73,10 @@ pub fn conditions_of(s: Settings, r: Record) -> Conditions
     let state = r.state;
     let more = more_of(state, r.rcr.0 < s.rcr_max, r.aec.0 < s.aec_max);
     let mark = mark_of(state, r.hold_on, r.user_ack, r.hold_on_sent);
+    let limited = limited_of(state, r.hold_on, r.hold_on_sent, 0 < r.limit);
     Conditions {
         more: more,
         mark: mark,
+        limited: limited,
     }
 }

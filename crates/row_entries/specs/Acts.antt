@@ -3,7 +3,7 @@ use Prim.Native.Nat.{ℕ}
 use mathlib.Core.Bool.{Bool, true, false}
 use Rattle.table_record.specs.declared.State.the-variants.{IResultWait1, IResultWait2, IWaitTimeout, RTidokWait1, RTidokWait2, RInvokeRespWait1, RInvokeRespWait2, RResultWait, RResultRespWait, RWaitTimeout}
 use Rattle.row_events.specs.declared.Row.{Row}
-use Rattle.row_events.specs.declared.Row.the-variants.{Ignored, NotAllowed, PeerAborts, Malformed, UserAborts, PeerAbortsUnseen, MalformedUnseen, TidokSent, Confirmed, HeldOn, Resent, GivenUp, ResultUnsupported, ResultConfirms, ResultTaken, ResultAnswered, ResultAcked, UserAwaited, UserSilent, ResultSeenAgain, TimeoutEnds, Verified1, Verified2, TidveRepeated, InvokeAnswered, InvokeAcked, UserWorks, HoldOnSent, ResultSent, HoldOnRepeated, ResultResent, InvokeSeenAgain, TidokSeenAgain}
+use Rattle.row_events.specs.declared.Row.the-variants.{Ignored, NotAllowed, PeerAborts, Malformed, UserAborts, PeerAbortsUnseen, MalformedUnseen, TidokSent, Confirmed, HeldOn, Resent, GivenUp, ResultUnsupported, ResultConfirms, ResultTaken, ResultAnswered, ResultAcked, UserAwaited, UserSilent, ResultSeenAgain, TimeoutEnds, Verified1, Verified2, TidveRepeated, InvokeAnswered, InvokeAcked, UserWorks, HoldOnSent, ResultSent, HoldOnRepeated, ResultResent, InvokeSeenAgain, TidokSeenAgain, TidokWaitEnds, HeldOnWaitEnds, ResultWaitEnds}
 use Rattle.row_events.specs.declared.Opening.{Opening}
 use Rattle.row_events.specs.declared.Opening.the-variants as Opening
 use Rattle.row_columns.specs.declared.Next.the-variants.{Stays, Goes}
@@ -88,6 +88,12 @@ actOf ResultResent tidok kind reason = resent Mark.Same (Send.Result true)
 actOf InvokeSeenAgain tidok kind reason = kept (Send.LastAck true)
 -- 002, 9.6, WAIT TIMEOUT, "TIDok, RID=1: Send Ack PDU", where 01 is silent: a verified transaction whose one Ack was lost is so acknowledged
 actOf TidokSeenAgain tidok kind reason = kept (Send.LastAck true)
+-- 02, L6: "At its end TIDOK WAIT ends silently"
+actOf TidokWaitEnds tidok kind reason = ended Send.Nothing Indication.Nothing
+-- "the held-on wait indicates an abort and ends": "provider with [..] 8 if none is sent"
+actOf HeldOnWaitEnds tidok kind reason = ended Send.Nothing (Indication.Abort provider noresponse)
+-- "and the responder's RESULT WAIT sends Abort 8, indicates an abort and ends"
+actOf ResultWaitEnds tidok kind reason = aborted noresponse
 
 -- 01, "Events", the requests, and what comes without a live record
 unfoldable pub openingAct : Opening → Act

@@ -83,6 +83,9 @@ pub fn act_of(row: Row, tidok: bool, kind: u8, reason: u8) -> Act
         Row::ResultResent => resends(Mark::Same, Send::Result(true)),
         Row::InvokeSeenAgain => keeps(Send::LastAck(true)),
         Row::TidokSeenAgain => keeps(Send::LastAck(true)),
+        Row::TidokWaitEnds => ends(Send::Nothing, Indication::Nothing),
+        Row::HeldOnWaitEnds => ends(Send::Nothing, Indication::Abort(PROVIDER, NORESPONSE)),
+        Row::ResultWaitEnds => aborts(NORESPONSE),
     }
 }
 

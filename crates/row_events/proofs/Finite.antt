@@ -54,7 +54,7 @@ event-numbered UserResult = (omega arith, refl)
 event-numbered UserAbort = (omega arith, refl)
 event-numbered Timer = (omega arith, refl)
 
-row-numbered : (x : Row) → (rowNumber x < 33) × (rowNumbered (rowNumber x) ≡ x)
+row-numbered : (x : Row) → (rowNumber x < 36) × (rowNumbered (rowNumber x) ≡ x)
 row-numbered Row.Ignored = (omega arith, refl)
 row-numbered Row.NotAllowed = (omega arith, refl)
 row-numbered Row.PeerAborts = (omega arith, refl)
@@ -88,6 +88,9 @@ row-numbered Row.HoldOnRepeated = (omega arith, refl)
 row-numbered Row.ResultResent = (omega arith, refl)
 row-numbered Row.InvokeSeenAgain = (omega arith, refl)
 row-numbered Row.TidokSeenAgain = (omega arith, refl)
+row-numbered Row.TidokWaitEnds = (omega arith, refl)
+row-numbered Row.HeldOnWaitEnds = (omega arith, refl)
+row-numbered Row.ResultWaitEnds = (omega arith, refl)
 
 opening-numbered : (x : Opening) → (openingNumber x < 16) × (openingNumbered (openingNumber x) ≡ x)
 opening-numbered Opening.Ignored = (omega arith, refl)
@@ -107,14 +110,18 @@ opening-numbered Opening.UnknownTidve = (omega arith, refl)
 opening-numbered Opening.Restarted1 = (omega arith, refl)
 opening-numbered Opening.Restarted2 = (omega arith, refl)
 
-conditions-numbered : (c : Conditions) → (conditionsNumber c < 4) × (conditionsNumbered (conditionsNumber c) ≡ c)
-conditions-numbered c = go (c .more) (c .mark)
+conditions-numbered : (c : Conditions) → (conditionsNumber c < 8) × (conditionsNumbered (conditionsNumber c) ≡ c)
+conditions-numbered c = go (c .more) (c .mark) (c .limited)
   where
-    go : (a b : Bool) → (bit a + 2 * bit b < 4) × (conditionsNumbered (bit a + 2 * bit b) ≡ record { more = a; mark = b })
-    go true true = (omega arith, refl)
-    go true false = (omega arith, refl)
-    go false true = (omega arith, refl)
-    go false false = (omega arith, refl)
+    go : (a b d : Bool) → (bit a + 2 * bit b + 4 * bit d < 8) × (conditionsNumbered (bit a + 2 * bit b + 4 * bit d) ≡ record { more = a; mark = b; limited = d })
+    go true true true = (omega arith, refl)
+    go true true false = (omega arith, refl)
+    go true false true = (omega arith, refl)
+    go true false false = (omega arith, refl)
+    go false true true = (omega arith, refl)
+    go false true false = (omega arith, refl)
+    go false false true = (omega arith, refl)
+    go false false false = (omega arith, refl)
 
 -- what is computed for each number below n holds of whatever has one
 each : {A : Type 0} (f : A → Bool) (n : ℕ) (of : ℕ → A) → every (λ k. f (of k)) n ≡ true → (x : A) (k : ℕ) → (k < n) × (of k ≡ x) → f x ≡ true
@@ -132,24 +139,24 @@ at-flags (true ∷ l) f e = at-flags l (λ m. f (true ∷ m)) (both-fst (allFlag
 at-flags (false ∷ l) f e = at-flags l (λ m. f (false ∷ m)) (both-snd (allFlags (length l) (λ m. f (true ∷ m))) (allFlags (length l) (λ m. f (false ∷ m))) e)
 
 abbrev pub allStates : (State → Event → Conditions → Bool) → Bool
-allStates f = every (λ i. every (λ j. every (λ k. f (stateOf i) (eventNumbered j) (conditionsNumbered k)) 4) 16) (stateBound + 1)
+allStates f = every (λ i. every (λ j. every (λ k. f (stateOf i) (eventNumbered j) (conditionsNumbered k)) 8) 16) (stateBound + 1)
 
 abbrev pub allRows : (Row → Bool) → Bool
-allRows f = every (λ k. f (rowNumbered k)) 33
+allRows f = every (λ k. f (rowNumbered k)) 36
 
 abbrev pub allOpenings : (Opening → Bool) → Bool
 allOpenings f = every (λ k. f (openingNumbered k)) 16
 
 pub at-state : (f : State → Event → Conditions → Bool) → allStates f ≡ true → (s : State) (e : Event) (c : Conditions) → f s e c ≡ true
 at-state f computed s e c =
-    each (λ x. f s e x) 4 conditionsNumbered
-    (each (λ x. every (λ k. f s x (conditionsNumbered k)) 4) 16 eventNumbered
-    (each (λ x. every (λ j. every (λ k. f x (eventNumbered j) (conditionsNumbered k)) 4) 16) (stateBound + 1) stateOf computed s (stateNumber s) (state-small s, state-back s))
+    each (λ x. f s e x) 8 conditionsNumbered
+    (each (λ x. every (λ k. f s x (conditionsNumbered k)) 8) 16 eventNumbered
+    (each (λ x. every (λ j. every (λ k. f x (eventNumbered j) (conditionsNumbered k)) 8) 16) (stateBound + 1) stateOf computed s (stateNumber s) (state-small s, state-back s))
     e (eventNumber e) (event-numbered e))
     c (conditionsNumber c) (conditions-numbered c)
 
 pub at-row : (f : Row → Bool) → allRows f ≡ true → (x : Row) → f x ≡ true
-at-row f computed x = each f 33 rowNumbered computed x (rowNumber x) (row-numbered x)
+at-row f computed x = each f 36 rowNumbered computed x (rowNumber x) (row-numbered x)
 
 pub at-opening : (f : Opening → Bool) → allOpenings f ≡ true → (x : Opening) → f x ≡ true
 at-opening f computed x = each f 16 openingNumbered computed x (openingNumber x) (opening-numbered x)

@@ -70,9 +70,12 @@ rowNumber Row.HoldOnRepeated = 29
 rowNumber Row.ResultResent = 30
 rowNumber Row.InvokeSeenAgain = 31
 rowNumber Row.TidokSeenAgain = 32
+rowNumber Row.TidokWaitEnds = 33
+rowNumber Row.HeldOnWaitEnds = 34
+rowNumber Row.ResultWaitEnds = 35
 
 abbrev pub rowNumbered : ℕ → Row
-rowNumbered n = getD (Row.Ignored ∷ Row.NotAllowed ∷ Row.PeerAborts ∷ Row.Malformed ∷ Row.UserAborts ∷ Row.PeerAbortsUnseen ∷ Row.MalformedUnseen ∷ Row.TidokSent ∷ Row.Confirmed ∷ Row.HeldOn ∷ Row.Resent ∷ Row.GivenUp ∷ Row.ResultUnsupported ∷ Row.ResultConfirms ∷ Row.ResultTaken ∷ Row.ResultAnswered ∷ Row.ResultAcked ∷ Row.UserAwaited ∷ Row.UserSilent ∷ Row.ResultSeenAgain ∷ Row.TimeoutEnds ∷ Row.Verified1 ∷ Row.Verified2 ∷ Row.TidveRepeated ∷ Row.InvokeAnswered ∷ Row.InvokeAcked ∷ Row.UserWorks ∷ Row.HoldOnSent ∷ Row.ResultSent ∷ Row.HoldOnRepeated ∷ Row.ResultResent ∷ Row.InvokeSeenAgain ∷ Row.TidokSeenAgain ∷ []) n Row.Ignored
+rowNumbered n = getD (Row.Ignored ∷ Row.NotAllowed ∷ Row.PeerAborts ∷ Row.Malformed ∷ Row.UserAborts ∷ Row.PeerAbortsUnseen ∷ Row.MalformedUnseen ∷ Row.TidokSent ∷ Row.Confirmed ∷ Row.HeldOn ∷ Row.Resent ∷ Row.GivenUp ∷ Row.ResultUnsupported ∷ Row.ResultConfirms ∷ Row.ResultTaken ∷ Row.ResultAnswered ∷ Row.ResultAcked ∷ Row.UserAwaited ∷ Row.UserSilent ∷ Row.ResultSeenAgain ∷ Row.TimeoutEnds ∷ Row.Verified1 ∷ Row.Verified2 ∷ Row.TidveRepeated ∷ Row.InvokeAnswered ∷ Row.InvokeAcked ∷ Row.UserWorks ∷ Row.HoldOnSent ∷ Row.ResultSent ∷ Row.HoldOnRepeated ∷ Row.ResultResent ∷ Row.InvokeSeenAgain ∷ Row.TidokSeenAgain ∷ Row.TidokWaitEnds ∷ Row.HeldOnWaitEnds ∷ Row.ResultWaitEnds ∷ []) n Row.Ignored
 
 -- the number of a row for what comes without a live record, and the row of a number
 abbrev pub openingNumber : Opening → ℕ
@@ -96,12 +99,12 @@ openingNumber Opening.Restarted2 = 15
 abbrev pub openingNumbered : ℕ → Opening
 openingNumbered n = getD (Opening.Ignored ∷ Opening.Requested0 ∷ Opening.Requested1 ∷ Opening.Requested2 ∷ Opening.Malformed ∷ Opening.WrongVersion ∷ Opening.Unsupported ∷ Opening.TooLong ∷ Opening.Shown0 ∷ Opening.Valid1 ∷ Opening.Valid2 ∷ Opening.ToVerify1 ∷ Opening.ToVerify2 ∷ Opening.UnknownTidve ∷ Opening.Restarted1 ∷ Opening.Restarted2 ∷ []) n Opening.Ignored
 
--- the number of the two conditions, and the conditions of a number
+-- the number of the three conditions, and the conditions of a number
 abbrev pub conditionsNumber : Conditions → ℕ
-conditionsNumber c = bit (c .more) + 2 * bit (c .mark)
+conditionsNumber c = bit (c .more) + 2 * bit (c .mark) + 4 * bit (c .limited)
 
 abbrev pub conditionsNumbered : ℕ → Conditions
-conditionsNumbered n = record { more = eqb (n % 2) 1; mark = eqb (n / 2) 1 }
+conditionsNumbered n = record { more = eqb (n % 2) 1; mark = eqb (n / 2 % 2) 1; limited = eqb (n / 4) 1 }
 
 -- whether two rows are the same
 abbrev pub sameRow : Row → Row → Bool

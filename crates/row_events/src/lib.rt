@@ -28,6 +28,8 @@ pub struct Conditions {
     pub more: bool,
     // The flag of the state is set: HoldOn, user acknowledgement, or hold-on sent.
     pub mark: bool,
+    // The deadline is a waiting limit, in one of the waits that have one.
+    pub limited: bool,
 }
 
 // The rows for a live record, in document 01's order.
@@ -66,6 +68,10 @@ pub enum Row {
     ResultResent,
     InvokeSeenAgain,
     TidokSeenAgain,
+    // The waiting limit is at its end.
+    TidokWaitEnds,
+    HeldOnWaitEnds,
+    ResultWaitEnds,
 }
 
 // The rows for what comes without a live record: a request, or a PDU.

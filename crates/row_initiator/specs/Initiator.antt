@@ -4,7 +4,7 @@ use Rattle.row_events.specs.declared.Event.{Event}
 use Rattle.row_events.specs.declared.Event.the-variants.{Invoke, InvokeRid, ResultCut, ResultCutRid, Result, ResultRid, PlainAck, TidAck, TidAckRid, ReceivedAbort, Segmented, MalformedPdu, UserAnswer, UserResult, UserAbort, Timer}
 use Rattle.row_events.specs.declared.Conditions.{Conditions}
 use Rattle.row_events.specs.declared.Row.{Row}
-use Rattle.row_events.specs.declared.Row.the-variants.{Ignored, NotAllowed, PeerAborts, Malformed, UserAborts, TidokSent, Confirmed, HeldOn, Resent, GivenUp, ResultUnsupported, ResultConfirms, ResultTaken, ResultAnswered, ResultAcked, UserAwaited, UserSilent, ResultSeenAgain, TimeoutEnds}
+use Rattle.row_events.specs.declared.Row.the-variants.{Ignored, NotAllowed, PeerAborts, Malformed, UserAborts, TidokSent, Confirmed, HeldOn, Resent, GivenUp, ResultUnsupported, ResultConfirms, ResultTaken, ResultAnswered, ResultAcked, UserAwaited, UserSilent, ResultSeenAgain, TimeoutEnds, HeldOnWaitEnds}
 
 -- 01, "RESULT WAIT" of the initiator, class 1; 002, 9.5, "WTP Initiator RESULT WAIT": a class 1 transaction has no Result
 abbrev pub resultWait1 : Event → Conditions → Row
@@ -42,7 +42,8 @@ resultWait2 MalformedPdu c = Malformed
 resultWait2 UserAnswer c = NotAllowed
 resultWait2 UserResult c = NotAllowed
 resultWait2 UserAbort c = UserAborts
-resultWait2 Timer c = pick (c .more) Resent GivenUp
+-- 02, L6: "At its end [..] the held-on wait indicates an abort and ends"
+resultWait2 Timer c = pick (c .limited) HeldOnWaitEnds (pick (c .more) Resent GivenUp)
 
 -- 01, "RESULT RESP WAIT" of the initiator; 002, 9.5, "WTP Initiator RESULT RESP WAIT (class 2 only)"; the mark is user acknowledgement
 abbrev pub resultRespWait : Event → Conditions → Row

@@ -61,7 +61,13 @@ pub fn result_wait2(e: Event, c: Conditions) -> Row
         Event::UserAnswer => Row::NotAllowed,
         Event::UserResult => Row::NotAllowed,
         Event::UserAbort => Row::UserAborts,
-        Event::Timer => { if c.more { Row::Resent } else { Row::GivenUp } }
+        Event::Timer => {
+            if c.limited {
+                Row::HeldOnWaitEnds
+            } else {
+                if c.more { Row::Resent } else { Row::GivenUp }
+            }
+        }
     }
 }
 

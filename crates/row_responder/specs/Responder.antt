@@ -5,26 +5,27 @@ use Rattle.row_events.specs.declared.Event.{Event}
 use Rattle.row_events.specs.declared.Event.the-variants.{Invoke, InvokeRid, ResultCut, ResultCutRid, Result, ResultRid, PlainAck, TidAck, TidAckRid, ReceivedAbort, Segmented, MalformedPdu, UserAnswer, UserResult, UserAbort, Timer}
 use Rattle.row_events.specs.declared.Conditions.{Conditions}
 use Rattle.row_events.specs.declared.Row.{Row}
-use Rattle.row_events.specs.declared.Row.the-variants.{Ignored, NotAllowed, PeerAborts, Malformed, UserAborts, PeerAbortsUnseen, MalformedUnseen, Confirmed, GivenUp, UserAwaited, UserSilent, TimeoutEnds, Verified1, Verified2, TidveRepeated, InvokeAnswered, InvokeAcked, UserWorks, HoldOnSent, ResultSent, HoldOnRepeated, ResultResent, InvokeSeenAgain, TidokSeenAgain}
+use Rattle.row_events.specs.declared.Row.the-variants.{Ignored, NotAllowed, PeerAborts, Malformed, UserAborts, PeerAbortsUnseen, MalformedUnseen, Confirmed, GivenUp, UserAwaited, UserSilent, TimeoutEnds, Verified1, Verified2, TidveRepeated, InvokeAnswered, InvokeAcked, UserWorks, HoldOnSent, ResultSent, HoldOnRepeated, ResultResent, InvokeSeenAgain, TidokSeenAgain, TidokWaitEnds, ResultWaitEnds}
 
 -- 01, "TIDOK WAIT": "TIDok: as valid. Invoke with RID: TIDve again"; "where the user knows nothing and may not abort (9)"; 002, 9.6, "WTP Responder TIDOK WAIT"; `two` says whether the class is 2
-abbrev pub tidokWait : Event → Bool → Row
-tidokWait Invoke two = Ignored
-tidokWait InvokeRid two = TidveRepeated
-tidokWait ResultCut two = Ignored
-tidokWait ResultCutRid two = Ignored
-tidokWait Result two = Ignored
-tidokWait ResultRid two = Ignored
-tidokWait PlainAck two = Ignored
-tidokWait TidAck two = pick two Verified2 Verified1
-tidokWait TidAckRid two = pick two Verified2 Verified1
-tidokWait ReceivedAbort two = PeerAbortsUnseen
-tidokWait Segmented two = Ignored
-tidokWait MalformedPdu two = MalformedUnseen
-tidokWait UserAnswer two = NotAllowed
-tidokWait UserResult two = NotAllowed
-tidokWait UserAbort two = NotAllowed
-tidokWait Timer two = Ignored
+abbrev pub tidokWait : Event → Bool → Conditions → Row
+tidokWait Invoke two c = Ignored
+tidokWait InvokeRid two c = TidveRepeated
+tidokWait ResultCut two c = Ignored
+tidokWait ResultCutRid two c = Ignored
+tidokWait Result two c = Ignored
+tidokWait ResultRid two c = Ignored
+tidokWait PlainAck two c = Ignored
+tidokWait TidAck two c = pick two Verified2 Verified1
+tidokWait TidAckRid two c = pick two Verified2 Verified1
+tidokWait ReceivedAbort two c = PeerAbortsUnseen
+tidokWait Segmented two c = Ignored
+tidokWait MalformedPdu two c = MalformedUnseen
+tidokWait UserAnswer two c = NotAllowed
+tidokWait UserResult two c = NotAllowed
+tidokWait UserAbort two c = NotAllowed
+-- 02, L6: "At its end TIDOK WAIT ends silently"
+tidokWait Timer two c = pick (c .limited) TidokWaitEnds Ignored
 
 -- 01, "INVOKE RESP WAIT", class 1; 002, 9.6, "WTP Responder INVOKE RESP WAIT"; the mark is user acknowledgement. An Invoke is ignored and doesn't restart A
 abbrev pub invokeRespWait1 : Event → Conditions → Row
@@ -81,7 +82,8 @@ resultWait MalformedPdu c = Malformed
 resultWait UserAnswer c = NotAllowed
 resultWait UserResult c = ResultSent
 resultWait UserAbort c = UserAborts
-resultWait Timer c = HoldOnSent
+-- 02, L6: "the responder's RESULT WAIT sends Abort 8, indicates an abort and ends"
+resultWait Timer c = pick (c .limited) ResultWaitEnds HoldOnSent
 
 -- 01, "RESULT RESP WAIT" of the responder; 002, 9.6, "WTP Responder RESULT RESP WAIT (class 2 only)"
 abbrev pub resultRespWait : Event → Conditions → Row

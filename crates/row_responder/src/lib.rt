@@ -6,8 +6,8 @@ use row_events::Event;
 use row_events::Row;
 
 // TIDOK WAIT of class 2, or else 1.
-pub fn tidok_wait(e: Event, two: bool) -> Row
-    ensures { λ r. ⌜ r ≡ tidokWait e two ⌝ }
+pub fn tidok_wait(e: Event, two: bool, c: Conditions) -> Row
+    ensures { λ r. ⌜ r ≡ tidokWait e two c ⌝ }
 {
     match e {
         Event::Invoke => Row::Ignored,
@@ -25,7 +25,13 @@ pub fn tidok_wait(e: Event, two: bool) -> Row
         Event::UserAnswer => Row::NotAllowed,
         Event::UserResult => Row::NotAllowed,
         Event::UserAbort => Row::NotAllowed,
-        Event::Timer => Row::Ignored,
+        Event::Timer => {
+            if c.limited {
+                Row::TidokWaitEnds
+            } else {
+                Row::Ignored
+            }
+        }
     }
 }
 
@@ -123,7 +129,13 @@ pub fn result_wait(e: Event, c: Conditions) -> Row
         Event::UserAnswer => Row::NotAllowed,
         Event::UserResult => Row::ResultSent,
         Event::UserAbort => Row::UserAborts,
-        Event::Timer => Row::HoldOnSent,
+        Event::Timer => {
+            if c.limited {
+                Row::ResultWaitEnds
+            } else {
+                Row::HoldOnSent
+            }
+        }
     }
 }
 

@@ -87,13 +87,25 @@ lenAfter cell was given = pick cell given was
 abbrev pub noTimer : ℕ
 noTimer = 0
 
+-- 02, L6: "taken from the settings where a row stops the timer or starts none; it is then the deadline"; a limit of 0 is the mode off
+unfoldable pub stoppedAt : ℕ → ℕ → ℕ
+stoppedAt time limit = pick (eqb limit 0) noTimer (time + limit)
+
 -- the deadline after a row: "timer A", "timer W", or "timer R[RCR]" of r milliseconds
 abbrev pub deadlineAfter : Timer → ℕ → ℕ → Settings → ℕ → ℕ
 deadlineAfter Timer.Runs was time s r = was
-deadlineAfter Timer.Stop was time s r = noTimer
+deadlineAfter Timer.Stop was time s r = stoppedAt time (s .limit)
 deadlineAfter Timer.A was time s r = time + s .a
 deadlineAfter Timer.W was time s r = time + s .w
 deadlineAfter Timer.R was time s r = time + r
+
+-- 02, L6: "Each record carries a waiting limit": the one in force after a row; none where the row starts a timer
+abbrev pub limitAfter : Timer → ℕ → ℕ → ℕ
+limitAfter Timer.Runs was limit = was
+limitAfter Timer.Stop was limit = limit
+limitAfter Timer.A was limit = 0
+limitAfter Timer.W was limit = 0
+limitAfter Timer.R was limit = 0
 
 -- 01: "Request", "Valid Invoke", "Else keep the data": the record that an opening starts from; "A freed record is zeroed" is that of zeros
 unfoldable pub newRecord : ℕ → ℕ → Bool → Bool → Record
@@ -111,6 +123,7 @@ newRecord peer tid userAck tidnew = record {
   «exit_len» = 0;
   deadline = 0;
   len = 0;
+  limit = 0;
 }
 
 -- the record in its next state; peer, TID, user acknowledgement and TIDnew never change, and R[RCR] takes RCR as the row leaves it
@@ -129,6 +142,7 @@ movedTo state a r g s rows = record {
   «exit_len» = exitLenAfter (a .exit) (r .«exit_len») (g .«exit_len»);
   deadline = deadlineAfter (a .timer) (r .deadline) (g .time) s (intervalOf rows (classOf state) (rcrAfter (a .count) (r .rcr)));
   len = lenAfter (a .cell) (r .len) (g .len);
+  limit = limitAfter (a .timer) (r .limit) (s .limit);
 }
 
 -- 01, "Events": the state that a row leaves, and whether it ends the record

@@ -4,7 +4,7 @@ ghost use Prim.Native.Nat.{_≤_};
 ghost use lib.ListN.{length};
 ghost use Rattle.base_layout.specs.Layout.{headerSize, timeBound};
 ghost use Rattle.table_layout.specs.Table.{intervalsOf};
-ghost use Rattle.row_turns.specs.Turns.{upOf, rcrAfter, aecAfter, holdOnAfter, tidokSentAfter, holdOnSentAfter, exitLenAfter, storesExit, lenAfter, noTimer, deadlineAfter, newRecord, movedTo, stateAfter, endsBy, recordAfter, turnOf};
+ghost use Rattle.row_turns.specs.Turns.{upOf, rcrAfter, aecAfter, holdOnAfter, tidokSentAfter, holdOnSentAfter, exitLenAfter, storesExit, lenAfter, stoppedAt, deadlineAfter, limitAfter, newRecord, movedTo, stateAfter, endsBy, recordAfter, turnOf};
 use row_columns::Act;
 use row_columns::Cache;
 use row_columns::Count;
@@ -131,11 +131,12 @@ fn len_after(cell: bool, was: u32, given: u32) -> u32
     if cell { given } else { was }
 }
 
-// The deadline of a record whose timer is stopped, or not started.
-fn no_timer() -> u64
-    ensures { λ v. ⌜ v ≡ noTimer ⌝ }
+// The deadline of a record whose timer is stopped, or not started: none, or the waiting limit.
+fn stopped(time: u64, limit: u32) -> u64
+    requires { ⌜ time ≤ timeBound ⌝ }
+    ensures { λ v. ⌜ v ≡ stoppedAt time limit ⌝ }
 {
-    0
+    if limit == 0 { 0 } else { time + limit as u64 }
 }
 
 fn deadline_after(t: Timer, was: u64, time: u64, s: Settings, r: u32) -> u64
@@ -144,10 +145,23 @@ fn deadline_after(t: Timer, was: u64, time: u64, s: Settings, r: u32) -> u64
 {
     match t {
         Timer::Runs => was,
-        Timer::Stop => no_timer(),
+        Timer::Stop => stopped(time, s.limit),
         Timer::A => time + s.a as u64,
         Timer::W => time + s.w as u64,
         Timer::R => time + r as u64,
+    }
+}
+
+// The waiting limit in force: the one that is the deadline.
+fn limit_after(t: Timer, was: u32, limit: u32) -> u32
+    ensures { λ v. ⌜ v ≡ limitAfter t was limit ⌝ }
+{
+    match t {
+        Timer::Runs => was,
+        Timer::Stop => limit,
+        Timer::A => 0,
+        Timer::W => 0,
+        Timer::R => 0,
     }
 }
 
@@ -169,6 +183,7 @@ pub fn new_record(peer: u8, tid: u16, user_ack: bool, tidnew: bool) -> Record
         exit_len: 0,
         deadline: 0,
         len: 0,
+        limit: 0,
     }
 }
 
@@ -194,6 +209,7 @@ fn moved_to(state: State, a: Act, r: Record, g: Given, s: Settings, t: &[u8]) ->
     let again = table_tids::interval(rows, class, rcr);
     let deadline = deadline_after(timer, r.deadline, g.time, s, again);
     let len = len_after(a.cell, r.len, g.len);
+    let limit = limit_after(timer, r.limit, s.limit);
     Record {
         state: state,
         peer: r.peer,
@@ -208,6 +224,7 @@ fn moved_to(state: State, a: Act, r: Record, g: Given, s: Settings, t: &[u8]) ->
         exit_len: exit_len,
         deadline: deadline,
         len: len,
+        limit: limit,
     }
 }
 

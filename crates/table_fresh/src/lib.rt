@@ -2,11 +2,11 @@
 ghost use mathlib.Core.Path.{_≡_};
 ghost use Prim.Native.Nat.{_+_, _≤_};
 ghost use lib.ListN.{length};
-ghost use Rattle.base_layout.specs.Layout.{aAt, headerSpare1At, base};
+ghost use Rattle.base_layout.specs.Layout.{aAt, limitAt, headerSpareAt, base};
 ghost use Rattle.base_lists.specs.Seq.{put};
 ghost use Rattle.base_octets.specs.Octets.{enc};
 ghost use Rattle.table_layout.specs.Table.{count};
-ghost use Rattle.table_fresh.specs.Fresh.{tableBytes, rightSize, wordOk, wordsOk, inRange, freshAnswer, zeros, fourEach, freshTable, left, leftBy};
+ghost use Rattle.table_fresh.specs.Fresh.{tableBytes, rightSize, wordOk, wordsOk, inRange, freshAnswer, zeros, fourEach, putRequests, freshTable, left, leftBy};
 use base_layout::HEADER_SIZE;
 use base_layout::RECORD_SIZE;
 use base_numbers::Refusal;
@@ -66,10 +66,9 @@ fn word_ok(k: usize, w: u64) -> bool
         return w <= MAXIMUM_BOUND;
     }
     if k < 22 {
-        if 1 <= w { w <= INTERVAL_BOUND } else { false }
-    } else {
-        w == 0
+        return if 1 <= w { w <= INTERVAL_BOUND } else { false };
     }
+    if k < 24 { true } else { w == 0 }
 }
 
 fn words_ok(ws: &[u64]) -> bool
@@ -92,7 +91,11 @@ fn in_range(ws: &[u64], first: u64) -> bool
 {
     if ws.len() == 32 {
         if words_ok(ws) {
-            first <= TID_BOUND
+            if table_ranges::modes_ok(ws[22], ws[23]) {
+                first <= TID_BOUND
+            } else {
+                false
+            }
         } else {
             false
         }
@@ -136,7 +139,7 @@ fn put_number(t: &mut [u8], at: usize, width: usize, v: u64)
 
 // A, W and the 18 R.
 fn put_intervals(t: &mut [u8], ws: &[u64])
-    requires { ⌜ (headerSpare1At ≤ length (now t)) × (22 ≤ length (now ws)) ⌝ }
+    requires { ⌜ (limitAt ≤ length (now t)) × (22 ≤ length (now ws)) ⌝ }
     ensures { λ _. ⌜ now (t .exit) ≡ put (now (t .entry)) aAt (fourEach 20 2 (now (ws .entry))) ⌝ }
 {
     let mut k = 0;
@@ -146,8 +149,18 @@ fn put_intervals(t: &mut [u8], ws: &[u64])
     }
 }
 
+// The waiting limit and its mode; TIDnew is due.
+fn put_requests(t: &mut [u8], ws: &[u64])
+    requires { ⌜ (headerSpareAt ≤ length (now t)) × (24 ≤ length (now ws)) ⌝ }
+    ensures { λ _. ⌜ now (t .exit) ≡ putRequests (now (t .entry)) (now (ws .entry)) ⌝ }
+{
+    put_number(t, base_layout::LIMIT_AT, 4, ws[23]);
+    put_number(t, base_layout::MODES_AT, 1, ws[22]);
+    put_number(t, base_layout::TIDNEW_DUE_AT, 1, 1);
+}
+
 fn put_fresh(t: &mut [u8], ws: &[u64], first: u64)
-    requires { ⌜ (length (now t) ≡ base (count (now t))) × (22 ≤ length (now ws)) ⌝ }
+    requires { ⌜ (length (now t) ≡ base (count (now t))) × (24 ≤ length (now ws)) ⌝ }
     ensures { λ _. ⌜ now (t .exit) ≡ freshTable (count (now (t .entry))) (now (ws .entry)) first ⌝ }
 {
     clear(t);
@@ -155,7 +168,7 @@ fn put_fresh(t: &mut [u8], ws: &[u64], first: u64)
     put_number(t, base_layout::RCR_MAX_AT, 1, ws[0]);
     put_number(t, base_layout::AEC_MAX_AT, 1, ws[1]);
     put_intervals(&mut *t, ws);
-    put_number(t, base_layout::TIDNEW_DUE_AT, 1, 1);
+    put_requests(t, ws);
 }
 
 // Makes the table fresh: no live record, no cached TID, clock 0.

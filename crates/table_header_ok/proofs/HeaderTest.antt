@@ -8,7 +8,7 @@ use native.Mathlib.Nat.{add-zero, zero-add}
 use lib.ListN.{getD}
 use lib.Dec.{leb}
 use borrow.Author.Tests.{leb-true, le-leb}
-use Rattle.base_layout.specs.Layout.{headerSpare1At, headerSpare1Size, headerSpare2At, headerSpare2Size, cachedBound, peers}
+use Rattle.base_layout.specs.Layout.{headerSpareAt, headerSpareSize, cachedBound, peers}
 use Rattle.base_lists.proofs.StoresAndParts.{every-all, every-at}
 use Rattle.base_lists.specs.Seq.{every}
 use Rattle.base_octets.specs.Octets.{num, gets}
@@ -16,8 +16,9 @@ use Rattle.table_layout.specs.Table.{fours, intervalsOf, settingsOf, cachedOf}
 use Rattle.table_layout.specs.declared.Settings.{Settings}
 use Rattle.table_ranges.specs.Ranges.{Interval, interval}
 use Rattle.table_ranges.proofs.Tests.{Each, each, all, interval-to, interval-from}
+use Rattle.table_ranges.proofs.Modes.{modes-to, modes-from}
 use Rattle.table_ranges.proofs.Zeros.{zeros-to, zeros-from}
-use Rattle.table_header_ok.specs.Header.{SettingsOk, RowsOk, HeaderOk, settingsTests, settingsOk, spareTests, spareOk, intervalAt, headerTests, headerOk}
+use Rattle.table_header_ok.specs.Header.{SettingsOk, RowsOk, HeaderOk, settingsTests, settingsOk, requestsTests, requestsOk, intervalAt, headerTests, headerOk}
 
 fours-at : (n at k : ℕ) (t : List ℕ) → k < n → getD (fours n at t) k 0 ≡ num (gets 4 (at + k * 4) t)
 unfolding fours
@@ -63,23 +64,23 @@ settings-from s h = all (settingsTests s) (le-leb _ _ (h .rcr-max), (le-leb _ _ 
 
 -- THE TEST OF THE HEADER HOLDS EXACTLY WHEN ITS SENTENCE DOES
 pub header-to : (t : List ℕ) → headerOk t ≡ true → HeaderOk t
-unfolding headerOk spareOk
+unfolding headerOk requestsOk settingsOf
 header-to t h =
     let e : Each (headerTests t) = each (headerTests t) h in
-    let f : Each (spareTests t) = each (spareTests t) (e .1 .1 .1 .0) in
+    let f : Each (requestsTests t) = each (requestsTests t) (e .1 .1 .1 .0) in
     record {
       clock = leb-true _ _ (e .0);
       gen-tid = leb-true _ _ (e .1 .0);
       settings = settings-to (settingsOf t) (e .1 .1 .0);
+      modes = modes-to _ _ (f .0);
       tidnew-due = leb-true _ _ (f .1 .0);
-      spare-1 = zeros-to t headerSpare1At headerSpare1Size (f .0);
-      spare-2 = zeros-to t headerSpare2At headerSpare2Size (f .1 .1);
+      spare = zeros-to t headerSpareAt headerSpareSize (f .1 .1);
       rows = rows-to t (e .1 .1 .1 .1 .0);
       cached = λ p l. leb-true _ _ (every-at (λ p. leb (cachedOf t p) cachedBound) peers (e .1 .1 .1 .1 .1) p l);
     }
 
 pub header-from : (t : List ℕ) → HeaderOk t → headerOk t ≡ true
-unfolding headerOk spareOk
+unfolding headerOk requestsOk settingsOf
 header-from t h =
     all (headerTests t) (
       le-leb _ _ (h .clock),
@@ -88,7 +89,7 @@ header-from t h =
         (
           settings-from (settingsOf t) (h .settings),
           (
-            all (spareTests t) (zeros-from t headerSpare1At headerSpare1Size (h .spare-1), (le-leb _ _ (h .tidnew-due), zeros-from t headerSpare2At headerSpare2Size (h .spare-2))),
+            all (requestsTests t) (modes-from _ _ (h .modes), (le-leb _ _ (h .tidnew-due), zeros-from t headerSpareAt headerSpareSize (h .spare))),
             (rows-from t (h .rows), every-all (λ p. leb (cachedOf t p) cachedBound) peers (λ p l. le-leb _ _ (h .cached p l))),
           ),
         ),

@@ -4,12 +4,12 @@ use mathlib.Core.List.{List, [], _∷_}
 use mathlib.Core.Bool.{Bool}
 use lib.ListN.{getD}
 use lib.Dec.{leb}
-use Rattle.base_layout.specs.Layout.{row1At, tidnewDueAt, headerSpare1At, headerSpare1Size, headerSpare2At, headerSpare2Size, timeBound, maximumBound, tidBound, cachedBound, peers}
+use Rattle.base_layout.specs.Layout.{row1At, limitAt, modesAt, tidnewDueAt, headerSpareAt, headerSpareSize, timeBound, maximumBound, tidBound, cachedBound, peers}
 use Rattle.base_lists.specs.Seq.{every}
 use Rattle.base_octets.specs.Octets.{num, gets}
 use Rattle.table_layout.specs.Table.{clockOf, genTidOf, settingsOf, intervalsOf, cachedOf}
 use Rattle.table_layout.specs.declared.Settings.{Settings}
-use Rattle.table_ranges.specs.Ranges.{Interval, interval, Zeros, zeros, allOf}
+use Rattle.table_ranges.specs.Ranges.{Interval, interval, ModesOk, modesOk, Zeros, zeros, allOf}
 
 -- 01: "RCR_MAX and AEC_MAX are 0 to 8. The intervals A, W and R are 1 to 86,400,000"
 pub record SettingsOk (s : Settings) : Type 0 where
@@ -27,9 +27,9 @@ pub record HeaderOk (t : List ℕ) : Type 0 where
   pub clock : clockOf t ≤ timeBound
   pub gen-tid : genTidOf t ≤ tidBound
   pub settings : SettingsOk (settingsOf t)
+  pub modes : ModesOk (getD t modesAt 0) (settingsOf t .limit)
   pub tidnew-due : getD t tidnewDueAt 0 ≤ 1
-  pub spare-1 : Zeros t headerSpare1At headerSpare1Size
-  pub spare-2 : Zeros t headerSpare2At headerSpare2Size
+  pub spare : Zeros t headerSpareAt headerSpareSize
   pub rows : RowsOk (intervalsOf t)
   pub cached : (peer : ℕ) → peer < peers → cachedOf t peer ≤ cachedBound
 
@@ -40,16 +40,16 @@ settingsTests s = leb (s .«rcr_max») maximumBound ∷ leb (s .«aec_max») max
 unfoldable pub settingsOk : Settings → Bool
 settingsOk s = allOf (settingsTests s)
 
--- the test of the spare octets, and of the flag of TIDnew between them (02, L2: 0 or 1)
-abbrev pub spareTests : List ℕ → List Bool
-spareTests t =
-    zeros t headerSpare1At headerSpare1Size
+-- the test of what the requests of document 02 added, and of the spare octets: the waiting limit with its mode (L6), the flag of TIDnew (L2: 0 or 1)
+abbrev pub requestsTests : List ℕ → List Bool
+requestsTests t =
+    modesOk (getD t modesAt 0) (num (gets 4 limitAt t))
     ∷ leb (getD t tidnewDueAt 0) 1
-    ∷ zeros t headerSpare2At headerSpare2Size
+    ∷ zeros t headerSpareAt headerSpareSize
     ∷ []
 
-unfoldable pub spareOk : List ℕ → Bool
-spareOk t = allOf (spareTests t)
+unfoldable pub requestsOk : List ℕ → Bool
+requestsOk t = allOf (requestsTests t)
 
 -- the k-th of the 18 intervals, row after row
 unfoldable pub intervalAt : List ℕ → ℕ → ℕ
@@ -61,7 +61,7 @@ headerTests t =
     leb (clockOf t) timeBound
     ∷ leb (genTidOf t) tidBound
     ∷ settingsOk (settingsOf t)
-    ∷ spareOk t
+    ∷ requestsOk t
     ∷ every (λ k. interval (intervalAt t k)) 18
     ∷ every (λ peer. leb (cachedOf t peer) cachedBound) peers
     ∷ []

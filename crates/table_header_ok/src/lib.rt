@@ -6,14 +6,11 @@ ghost use lib.Dec.{leb, ltb};
 ghost use Rattle.base_layout.specs.Layout.{headerSize, cachedBound, peers};
 ghost use Rattle.base_lists.specs.Seq.{every, pick};
 ghost use Rattle.table_layout.specs.Table.{cachedOf};
-ghost use Rattle.table_ranges.specs.Ranges.{interval};
-ghost use Rattle.table_header_ok.specs.Header.{settingsOk, spareOk, intervalAt, headerOk};
+ghost use Rattle.table_ranges.specs.Ranges.{interval, modesOk};
+ghost use Rattle.table_header_ok.specs.Header.{settingsOk, requestsOk, intervalAt, headerOk};
 use table_layout::Settings;
 
-// How many spare octets stand before and after the flag of TIDnew.
-const SPARE_1_SIZE: usize = base_layout::TIDNEW_DUE_AT - base_layout::HEADER_SPARE_1_AT;
-
-const SPARE_2_SIZE: usize = base_layout::CACHED_AT - base_layout::HEADER_SPARE_2_AT;
+const SPARE_SIZE: usize = base_layout::CACHED_AT - base_layout::HEADER_SPARE_AT;
 
 pub fn settings_ok(s: Settings) -> bool
     ensures { λ r. ⌜ r ≡ settingsOk s ⌝ }
@@ -30,18 +27,25 @@ pub fn settings_ok(s: Settings) -> bool
     table_ranges::interval_ok(s.w)
 }
 
-// The spare octets, and between them the flag of TIDnew.
-fn spare_ok(t: &[u8]) -> bool
-    requires { ⌜ headerSize ≤ length (now t) ⌝ }
-    ensures { λ r. ⌜ r ≡ spareOk (now (t .entry)) ⌝ }
+fn limit_ok(modes: u8, limit: u32) -> bool
+    ensures { λ r. ⌜ r ≡ modesOk modes limit ⌝ }
 {
-    if !table_ranges::zero_octets(t, base_layout::HEADER_SPARE_1_AT, SPARE_1_SIZE) {
+    table_ranges::modes_ok(modes as u64, limit as u64)
+}
+
+// The waiting limit and its mode, the flag of TIDnew, and the spare octets.
+fn requests_ok(t: &[u8]) -> bool
+    requires { ⌜ headerSize ≤ length (now t) ⌝ }
+    ensures { λ r. ⌜ r ≡ requestsOk (now (t .entry)) ⌝ }
+{
+    let limit = base_octets::get32(t, base_layout::LIMIT_AT);
+    if !limit_ok(t[base_layout::MODES_AT], limit) {
         return false;
     }
     if t[base_layout::TIDNEW_DUE_AT] > 1 {
         return false;
     }
-    table_ranges::zero_octets(t, base_layout::HEADER_SPARE_2_AT, SPARE_2_SIZE)
+    table_ranges::zero_octets(t, base_layout::HEADER_SPARE_AT, SPARE_SIZE)
 }
 
 // A mark where the k-th interval is out of range.
@@ -103,7 +107,7 @@ pub fn header_ok(t: &[u8]) -> bool
     if !settings_ok(table_layout::settings_of(t)) {
         return false;
     }
-    if !spare_ok(t) {
+    if !requests_ok(t) {
         return false;
     }
     if !rows_ok(t) {

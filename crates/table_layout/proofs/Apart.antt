@@ -29,11 +29,11 @@ pub tidnew-due-apart : (t : List ℕ) (b : ℕ) (w : List ℕ) → Apart tidnewD
 unfolding tidnewDueOf
 tidnew-due-apart t b w h = ap (λ (n : ℕ). eqb n 1) (octet-apart t b w tidnewDueAt h)
 
--- the settings lie from 10 to 92
-pub settings-apart : (t : List ℕ) (b : ℕ) (w : List ℕ) → Apart 10 82 b (length w) → settingsOf (put t b w) ≡ settingsOf t
+-- the settings lie from 10 to 97
+pub settings-apart : (t : List ℕ) (b : ℕ) (w : List ℕ) → Apart 10 87 b (length w) → settingsOf (put t b w) ≡ settingsOf t
 unfolding settingsOf
-settings-apart t b w (inl h) = rw (octet-apart t b w 10 (inl (omega arith)), octet-apart t b w 11 (inl (omega arith)), gets-apart 4 12 t b w (inl (omega arith)), gets-apart 4 16 t b w (inl (omega arith)))
-settings-apart t b w (inr h) = rw (octet-apart t b w 10 (inr (omega arith)), octet-apart t b w 11 (inr (omega arith)), gets-apart 4 12 t b w (inr (omega arith)), gets-apart 4 16 t b w (inr (omega arith)))
+settings-apart t b w (inl h) = rw (octet-apart t b w 10 (inl (omega arith)), octet-apart t b w 11 (inl (omega arith)), gets-apart 4 12 t b w (inl (omega arith)), gets-apart 4 16 t b w (inl (omega arith)), gets-apart 4 92 t b w (inl (omega arith)))
+settings-apart t b w (inr h) = rw (octet-apart t b w 10 (inr (omega arith)), octet-apart t b w 11 (inr (omega arith)), gets-apart 4 12 t b w (inr (omega arith)), gets-apart 4 16 t b w (inr (omega arith)), gets-apart 4 92 t b w (inr (omega arith)))
 
 pub fours-apart : (n at : ℕ) (t : List ℕ) (b : ℕ) (w : List ℕ) → Apart at (n * 4) b (length w) → fours n at (put t b w) ≡ fours n at t
 unfolding fours
@@ -41,7 +41,7 @@ fours-apart zero at t b w h = refl
 fours-apart (suc n) at t b w (inl h) = rw (gets-apart 4 at t b w (inl (omega arith)), fours-apart n (at + 4) t b w (inl (omega arith)))
 fours-apart (suc n) at t b w (inr h) = rw (gets-apart 4 at t b w (inr (omega arith)), fours-apart n (at + 4) t b w (inr (omega arith)))
 
-pub rows-apart : (t : List ℕ) (b : ℕ) (w : List ℕ) → Apart 10 82 b (length w) → intervalsOf (put t b w) ≡ intervalsOf t
+pub rows-apart : (t : List ℕ) (b : ℕ) (w : List ℕ) → Apart 10 87 b (length w) → intervalsOf (put t b w) ≡ intervalsOf t
 unfolding intervalsOf
 rows-apart t b w (inl h) = rw (fours-apart 9 20 t b w (inl (omega arith)), fours-apart 9 56 t b w (inl (omega arith)))
 rows-apart t b w (inr h) = rw (fours-apart 9 20 t b w (inr (omega arith)), fours-apart 9 56 t b w (inr (omega arith)))

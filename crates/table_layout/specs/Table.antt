@@ -4,7 +4,7 @@ use mathlib.Core.List.{List, [], _∷_}
 use mathlib.Core.Bool.{Bool}
 use lib.ListN.{length, getD, replicate}
 use lib.Dec.{eqb}
-use Rattle.base_layout.specs.Layout.{headerSize, recordSize, fieldsSize, clockAt, genTidAt, rcrMaxAt, aecMaxAt, aAt, wAt, row1At, row2At, tidnewDueAt, cachedAt, base}
+use Rattle.base_layout.specs.Layout.{headerSize, recordSize, fieldsSize, clockAt, genTidAt, rcrMaxAt, aecMaxAt, aAt, wAt, row1At, row2At, limitAt, tidnewDueAt, cachedAt, base}
 use Rattle.base_lists.specs.Seq.{bit, put}
 use Rattle.base_octets.specs.Octets.{num, enc, gets}
 use Rattle.table_record.specs.Record.{decoded, octetsOf}
@@ -27,9 +27,9 @@ genTidOf t = num (gets 2 genTidAt t)
 unfoldable pub tidnewDueOf : List ℕ → Bool
 tidnewDueOf t = eqb (getD t tidnewDueAt 0) 1
 
--- RCR_MAX, AEC_MAX, A and W
+-- RCR_MAX, AEC_MAX, A, W and the waiting limit (02, L6), which is 0 where the mode is off
 unfoldable pub settingsOf : List ℕ → Settings
-settingsOf t = record { «rcr_max» = getD t rcrMaxAt 0; «aec_max» = getD t aecMaxAt 0; a = num (gets 4 aAt t); w = num (gets 4 wAt t) }
+settingsOf t = record { «rcr_max» = getD t rcrMaxAt 0; «aec_max» = getD t aecMaxAt 0; a = num (gets 4 aAt t); w = num (gets 4 wAt t); limit = num (gets 4 limitAt t) }
 
 -- n numbers of four octets
 unfoldable pub fours : ℕ → ℕ → List ℕ → List ℕ

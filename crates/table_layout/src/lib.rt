@@ -14,6 +14,8 @@ pub struct Settings {
     pub aec_max: u8,
     pub a: u32,
     pub w: u32,
+    // The waiting limit; 0 is the mode off.
+    pub limit: u32,
 }
 
 // How many records a table has.
@@ -55,6 +57,7 @@ pub fn settings_of(t: &[u8]) -> Settings
         aec_max: t[base_layout::AEC_MAX_AT],
         a: base_octets::get32(t, base_layout::A_AT),
         w: base_octets::get32(t, base_layout::W_AT),
+        limit: base_octets::get32(t, base_layout::LIMIT_AT),
     }
 }
 

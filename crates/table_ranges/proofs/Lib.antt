@@ -1,3 +1,4 @@
 pub mod Tests
 pub mod InTurn
 pub mod Zeros
+pub mod Modes

@@ -42,13 +42,6 @@ zeros-join t at m n = same-test _ _
           let e : at + m + k ≡ at + (m + k) = omega arith in
           rw e (a (m + k) (omega arith))
 
--- a function that tests one stretch and then the next
-pub first-broke : (t : List ℕ) (at m n : ℕ) → zeros t at m ≡ false → false ≡ zeros t at (m + n)
-first-broke t at m n e = rw e at (zeros-join t at m n)
-
-pub first-held : (t : List ℕ) (at m n : ℕ) {r : Bool} → zeros t at m ≡ true → r ≡ zeros t (at + m) n → r ≡ zeros t at (m + n)
-first-held t at m n e q = q ∙ rw e at (zeros-join t at m n)
-
 num-to : (n at : ℕ) (t : List ℕ) → num (gets n at t) ≡ 0 → Zeros t at n
 unfolding num gets
 num-to zero at t h k l = absurd (omega arith)

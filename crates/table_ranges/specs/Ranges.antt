@@ -25,6 +25,14 @@ intervalTests v = leb 1 v ∷ leb v intervalBound ∷ []
 unfoldable pub interval : ℕ → Bool
 interval v = allOf (intervalTests v)
 
+-- 02, L6: "1 to 86,400,000", "off or on in the settings": mode 0 with no limit, or mode 1 with one; as a sentence, and as a test
+pub data ModesOk (modes limit : ℕ) : Type 0 where
+  off : modes ≡ 0 → limit ≡ 0 → ModesOk modes limit
+  on : modes ≡ 1 → Interval limit → ModesOk modes limit
+
+unfoldable pub modesOk : ℕ → ℕ → Bool
+modesOk modes limit = pick (eqb modes 0) (eqb limit 0) (pick (eqb modes 1) (interval limit) false)
+
 -- the n octets from `at` on are zero: as a sentence, and as a test
 abbrev pub Zeros : List ℕ → ℕ → ℕ → Type 0
 Zeros t at n = (k : ℕ) → k < n → getD t (at + k) 0 ≡ 0

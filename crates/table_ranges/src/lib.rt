@@ -4,7 +4,10 @@ ghost use Prim.Native.Nat.{_+_, _*_, _≤_};
 ghost use lib.ListN.{length};
 ghost use lib.Dec.{leb};
 ghost use Rattle.base_layout.specs.Layout.{timeBound, maximumBound, tidBound};
-ghost use Rattle.table_ranges.specs.Ranges.{interval, zeros};
+ghost use Rattle.table_ranges.specs.Ranges.{interval, modesOk, zeros};
+
+// The bound of the waiting limit, as wide as the settings' words.
+const LIMIT_BOUND: u64 = base_layout::INTERVAL_BOUND as u64;
 
 pub fn time_ok(time: u64) -> bool
     ensures { λ r. ⌜ r ≡ leb time timeBound ⌝ }
@@ -36,6 +39,24 @@ pub fn interval_ok(v: u32) -> bool
     }
 }
 
+// The waiting limit goes with its mode.
+pub fn modes_ok(modes: u64, limit: u64) -> bool
+    ensures { λ r. ⌜ r ≡ modesOk modes limit ⌝ }
+{
+    if modes == 0 {
+        return limit == 0;
+    }
+    if modes == 1 {
+        if 1 <= limit {
+            limit <= LIMIT_BOUND
+        } else {
+            false
+        }
+    } else {
+        false
+    }
+}
+
 // Whether n octets are zero.
 pub fn zero_octets(t: &[u8], at: usize, n: usize) -> bool
     requires { ⌜ at + n ≤ length (now t) ⌝ }
@@ -48,13 +69,6 @@ pub fn zero_octets(t: &[u8], at: usize, n: usize) -> bool
         i += 1;
     }
     bits == 0
-}
-
-pub fn zero4(t: &[u8], at: usize) -> bool
-    requires { ⌜ at + 4 ≤ length (now t) ⌝ }
-    ensures { λ r. ⌜ r ≡ zeros (now (t .entry)) at 4 ⌝ }
-{
-    base_octets::get32(t, at) == 0
 }
 
 // Whether n words of eight octets are zero, gathered without an early exit: it becomes a few wide loads.

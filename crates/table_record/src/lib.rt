@@ -35,7 +35,7 @@ pub struct Rcr(pub u8);
 // 01, "Events": how many acknowledgement intervals the user let pass.
 pub struct Aec(pub u8);
 
-// A record without its exit information, which stays in the table. The deadline 0 is no timer.
+// A record without its exit information, which stays in the table. The deadline 0 is no timer; `limit` is the waiting limit that the deadline is, 0 where it is none.
 pub struct Record {
     pub state: State,
     pub peer: u8,
@@ -50,6 +50,7 @@ pub struct Record {
     pub exit_len: u8,
     pub deadline: u64,
     pub len: u32,
+    pub limit: u32,
 }
 
 pub fn role_of(s: State) -> Role
@@ -161,7 +162,7 @@ fn flags_of(r: Record) -> u8
         + 16 * base_lists::bit(r.tidnew)
 }
 
-// The record of 20 octets.
+// The record of 24 octets.
 pub fn decode(w: &[u8]) -> Record
     requires { ⌜ fieldsSize ≤ length (now w) ⌝ }
     ensures { λ r. ⌜ r ≡ decoded (now (w .entry)) ⌝ }
@@ -182,10 +183,11 @@ pub fn decode(w: &[u8]) -> Record
         exit_len: w[base_layout::EXIT_LEN_OFFSET],
         deadline: base_octets::get64(w, base_layout::DEADLINE_OFFSET),
         len: base_octets::get32(w, base_layout::LEN_OFFSET),
+        limit: base_octets::get32(w, base_layout::LIMIT_OFFSET),
     }
 }
 
-// The 20 octets of a record.
+// The 24 octets of a record.
 pub fn encode(r: Record) -> [u8; base_layout::FIELDS_SIZE]
     ensures { λ w. ⌜ w ≡ octetsOf r ⌝ }
 {
@@ -194,6 +196,7 @@ pub fn encode(r: Record) -> [u8; base_layout::FIELDS_SIZE]
     let t = base_octets::bytes16(r.tid);
     let d = base_octets::bytes64(r.deadline);
     let l = base_octets::bytes32(r.len);
+    let m = base_octets::bytes32(r.limit);
     let f = flags_of(r);
     [
         s,
@@ -216,5 +219,9 @@ pub fn encode(r: Record) -> [u8; base_layout::FIELDS_SIZE]
         l[1],
         l[2],
         l[3],
+        m[0],
+        m[1],
+        m[2],
+        m[3],
     ]
 }

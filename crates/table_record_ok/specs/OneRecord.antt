@@ -5,7 +5,7 @@ use mathlib.Core.Bool.{Bool}
 use mathlib.Core.Logic.{_⊎_}
 use lib.ListN.{getD}
 use lib.Dec.{leb, eqb}
-use Rattle.base_layout.specs.Layout.{recordSize, spareSize, base, flagsAt, spareBase, deadlineBound, tidBound, peerBound, peers, exitBound, cellSize, stateBound, flagsBound}
+use Rattle.base_layout.specs.Layout.{recordSize, spareSize, base, flagsAt, spareBase, intervalBound, deadlineBound, tidBound, peerBound, peers, exitBound, cellSize, stateBound, flagsBound}
 use Rattle.base_lists.specs.Seq.{pick, bit}
 use Rattle.table_record.specs.Record.{stateNumber, roleOf}
 use Rattle.table_record.specs.declared.Role.{Role}
@@ -33,6 +33,8 @@ pub record Bounded (s : Settings) (r : Record) : Type 0 where
   pub deadline : r .deadline ≤ deadlineBound
   pub message : r .len ≤ cellSize
   pub tidnew : bit (r .tidnew) ≤ tidnewBound (roleOf (r .state))
+  -- 02, L6: "a waiting limit, 1 to 86,400,000", and 0 where none is in force
+  pub limit : r .limit ≤ intervalBound
   pub peer : r .peer < peers
 
 -- 01: "all fields are in range (a state for its role and class, ..)": a live record within its bounds
@@ -63,6 +65,7 @@ rangeTests s r =
     ∷ leb (r .deadline) deadlineBound
     ∷ leb (r .len) cellSize
     ∷ leb (bit (r .tidnew)) (tidnewBound (roleOf (r .state)))
+    ∷ leb (r .limit) intervalBound
     ∷ leb (r .peer) peerBound
     ∷ []
 

@@ -21,10 +21,10 @@ const CELL_SIZE: u32 = base_layout::CELL_SIZE as u32;
 
 const PEER_BOUND: u8 = base_layout::PEER_BOUND as u8;
 
-// The words of eight octets of a record, and of its spare octets after the first four.
+// The words of eight octets of a record, and of its spare octets.
 const RECORD_WORDS: usize = RECORD_SIZE / 8;
 
-const SPARE_WORDS: usize = (base_layout::SPARE_SIZE - 4) / 8;
+const SPARE_WORDS: usize = base_layout::SPARE_SIZE / 8;
 
 // Only an initiator's Invoke carries TIDnew.
 fn tidnew_bound(role: Role) -> u8
@@ -68,6 +68,9 @@ fn in_range(s: Settings, r: Record) -> bool
     if !tidnew_ok(r) {
         return false;
     }
+    if r.limit > base_layout::INTERVAL_BOUND {
+        return false;
+    }
     r.peer <= PEER_BOUND
 }
 
@@ -76,10 +79,7 @@ fn spare_ok(t: &[u8], i: usize) -> bool
     ensures { λ b. ⌜ b ≡ zeros (now (t .entry)) (spareBase i) spareSize ⌝ }
 {
     let at = HEADER_SIZE + i * RECORD_SIZE + base_layout::SPARE_OFFSET;
-    if !table_ranges::zero4(t, at) {
-        return false;
-    }
-    table_ranges::zero_words(t, at + 4, SPARE_WORDS)
+    table_ranges::zero_words(t, at, SPARE_WORDS)
 }
 
 // A record whose state octet isn't zero.

@@ -1,4 +1,4 @@
--- `row_conditions::conditions_of` meets its contract, from its two callees' contracts. Assumes nothing.
+-- `row_conditions::conditions_of` meets its contract, from its callees' contracts. Assumes nothing.
 use borrow.Author.Needs.{needs}
 use Rattle.row_conditions.specs.Conditions.{conditionsOf}
 use Rattle.row_conditions.proofs.conditions_of.Statement.{statement}
@@ -8,5 +8,5 @@ pub conditions-of-spec : {M : Type 1} → statement M
 unfolding conditionsOf
 conditions-of-spec =
     tie.close (tie.spec
-    (λ c κs. search needs) (λ c κs. search needs)
-    (λ c. simp (c .mark-of .ensures, c .before .more-of .ensures)))
+    (λ c κs. search needs) (λ c κs. search needs) (λ c κs. search needs)
+    (λ c. simp (c .limited-of .ensures, c .before .before .mark-of .ensures, c .before .before .before .more-of .ensures)))

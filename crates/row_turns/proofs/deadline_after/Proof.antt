@@ -10,7 +10,7 @@ deadline-after-spec =
     (λ c. search needs) (λ c. search needs) (λ c. search needs) (λ c. search needs) (λ c. search needs)
     (λ c. search needs)
     (λ c. simp (c .enum-told .given .1))
-    (λ c. simp (c .no-timer .ensures, c .before .enum-told2 .given .1))
+    (λ c. simp (c .stopped .ensures, c .before .enum-told2 .given .1))
     (λ c. simp (c .before .enum-told3 .given .1))
     (λ c. simp (c .before .enum-told4 .given .1))
     (λ c. simp (c .enum-told5 .given .1)))

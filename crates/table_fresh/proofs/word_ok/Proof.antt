@@ -11,4 +11,5 @@ word-ok-spec =
     (λ c. simp (lt-ltb _ _ (c .if1 .taken)))
     (λ c. simp (le-leb _ _ (c .if3 .taken), lt-ltb _ _ (c .before .if2 .taken), le-ltb _ _ (c .before .before .if1 .left)))
     (λ c. simp (lt-leb _ _ (c .if3 .left), lt-ltb _ _ (c .before .if2 .taken), le-ltb _ _ (c .before .before .if1 .left)))
-    (λ c. simp (le-ltb _ _ (c .if2 .left), le-ltb _ _ (c .before .if1 .left))))
+    (λ c. simp (lt-ltb _ _ (c .if4 .taken), le-ltb _ _ (c .before .if2 .left), le-ltb _ _ (c .before .before .if1 .left)))
+    (λ c. simp (le-ltb _ _ (c .if4 .left), le-ltb _ _ (c .before .if2 .left), le-ltb _ _ (c .before .before .if1 .left))))

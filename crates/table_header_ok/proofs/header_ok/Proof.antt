@@ -17,7 +17,7 @@ past3 : (c : tie.Else3) → Passed 3 (headerTests (now (c .before .before .befor
 past3 c = passes 2 _ (past2 (c .before .before .before)) (rw (c .before .before .settings-of .ensures) at (held (c .before .settings-ok .ensures) (c .if3 .left)))
 
 past4 : (c : tie.Else4) → Passed 4 (headerTests (now (c .before .before .before .before .before .before .before .before .before .before .before .before .args .t)))
-past4 c = passes 3 _ (past3 (c .before .before)) (held (c .before .spare-ok .ensures) (c .if4 .left))
+past4 c = passes 3 _ (past3 (c .before .before)) (held (c .before .requests-ok .ensures) (c .if4 .left))
 
 past5 : (c : tie.Else5) → Passed 5 (headerTests (now (c .before .before .before .before .before .before .before .before .before .before .before .before .before .before .args .t)))
 past5 c = passes 4 _ (past4 (c .before .before)) (held (c .before .rows-ok .ensures) (c .if5 .left))
@@ -33,7 +33,7 @@ header-ok-spec =
     (λ c κs. search needs) (λ c κs. search needs)
     (λ c. fails 2 _ (past2 (c .before .before .before)) (rw (c .before .before .settings-of .ensures) at (broke (c .before .settings-ok .ensures) (c .if3 .taken))))
     (λ c κs. search needs)
-    (λ c. fails 3 _ (past3 (c .before .before)) (broke (c .before .spare-ok .ensures) (c .if4 .taken)))
+    (λ c. fails 3 _ (past3 (c .before .before)) (broke (c .before .requests-ok .ensures) (c .if4 .taken)))
     (λ c κs. search needs)
     (λ c. fails 4 _ (past4 (c .before .before)) (broke (c .before .rows-ok .ensures) (c .if5 .taken)))
     (λ c κs. search needs)

@@ -8,5 +8,5 @@ pub settings-of-spec : {M : Type 1} → statement M
 unfolding settingsOf
 settings-of-spec =
     tie.close (tie.spec
-    (λ c. search needs) (λ c. search needs) (λ c κs. search needs) (λ c κs. search needs)
+    (λ c. search needs) (λ c. search needs) (λ c κs. search needs) (λ c κs. search needs) (λ c κs. search needs)
     (λ c. cc))

@@ -28,6 +28,9 @@ past6 c = passes 5 _ (past5 (c .before .before)) (le-leb _ _ (c .if6 .left))
 past7 : (c : tie.Else7) → Passed 7 (rangeTests (c .before .before .before .before .before .before .before .before .before .before .before .before .before .before .before .before .args .s) (c .before .before .before .before .before .before .before .before .before .before .before .before .before .before .before .before .args .r))
 past7 c = passes 6 _ (past6 (c .before .before)) (held (c .before .tidnew-ok .ensures) (c .if7 .left))
 
+past8 : (c : tie.Else8) → Passed 8 (rangeTests (c .before .before .before .before .before .before .before .before .before .before .before .before .before .before .before .before .before .before .args .s) (c .before .before .before .before .before .before .before .before .before .before .before .before .before .before .before .before .before .before .args .r))
+past8 c = passes 7 _ (past7 (c .before .before)) (le-leb _ _ (c .if8 .left))
+
 pub in-range-spec : {M : Type 1} → statement M
 unfolding inRange
 in-range-spec =
@@ -41,4 +44,5 @@ in-range-spec =
     (λ c. fails 5 _ (past5 (c .before .before)) (lt-leb _ _ (c .if6 .taken)))
     (λ c κs. search needs)
     (λ c. fails 6 _ (past6 (c .before .before)) (broke (c .before .tidnew-ok .ensures) (c .if7 .taken)))
-    (λ c. decides 7 _ _ (past7 (c .before)) refl refl))
+    (λ c. fails 7 _ (past7 (c .before .before)) (lt-leb _ _ (c .if8 .taken)))
+    (λ c. decides 8 _ _ (past8 (c .before)) refl refl))

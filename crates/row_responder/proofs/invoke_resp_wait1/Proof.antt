@@ -1,0 +1,18 @@
+-- `row_responder::invoke_resp_wait1` meets its contract, event by event. Assumes nothing.
+use borrow.Author.Needs.{needs}
+use Rattle.row_responder.proofs.invoke_resp_wait1.Statement.{statement}
+use Rattle.row_responder.proofs.invoke_resp_wait1.Tie as tie
+
+pub invoke-resp-wait1-spec : {M : Type 1} → statement M
+invoke-resp-wait1-spec =
+    tie.close (tie.spec
+    (λ c. search needs) (λ c. search needs) (λ c. search needs) (λ c. search needs) (λ c. search needs)
+    (λ c. search needs) (λ c. search needs) (λ c. search needs) (λ c. search needs) (λ c. search needs)
+    (λ c. search needs) (λ c. search needs) (λ c. search needs) (λ c. search needs) (λ c. search needs)
+    (λ c. search needs) (λ c. search needs) (λ c. search needs) (λ c. search needs) (λ c. search needs)
+    (λ c. search needs) (λ c. search needs) (λ c. search needs) (λ c. search needs) (λ c. search needs)
+    (λ c. search needs) (λ c. search needs) (λ c. search needs) (λ c. search needs) (λ c. search needs)
+    (λ c. search needs)
+    (λ c. simp (c .if2 .taken, c .before .if1 .taken, c .before .before .enum-told16 .given .1))
+    (λ c. simp (c .if2 .left, c .before .if1 .taken, c .before .before .enum-told16 .given .1))
+    (λ c. search needs))
