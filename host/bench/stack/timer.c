@@ -69,8 +69,8 @@ static void waits_end(void)
     initiators(RECORDS, RECORDS, 2, 0);
     receive(BEFORE, PEER, header(ACK, TO_INITIATOR | LAST));
     made();
-    fire(DUE, LAST);
-    row("waiting limit: held on, an abort shown, the last of 48 records", WTP_OK);
+    fired(DUE, LAST);
+    fires("waiting limit: held on, an abort shown, the last of 48 records", DUE);
 }
 
 static void nothing_fires(void)
