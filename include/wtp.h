@@ -108,14 +108,22 @@ enum {
     WTP_ITEM = 24 /* item k has the words WTP_ITEM + 4k: identity, 1 for the long form or 0, start and length of its data */
 };
 
-/* Words of settings: RCR_MAX, AEC_MAX, A, W, nine R of class 1 from word 4 on, nine R of class 2 from word 13 on, then zeros. */
-enum { WTP_RCR_MAX = 0, WTP_AEC_MAX, WTP_A, WTP_W, WTP_R_CLASS_1, WTP_R_CLASS_2 = 13 };
+/* Words of settings: RCR_MAX, AEC_MAX, A, W, nine R of class 1 from word 4 on, nine R of class 2 from word 13 on, the modes and the
+ * waiting limit, then zeros. */
+enum { WTP_RCR_MAX = 0, WTP_AEC_MAX, WTP_A, WTP_W, WTP_R_CLASS_1, WTP_R_CLASS_2 = 13, WTP_MODES = 22, WTP_WAITING_LIMIT };
+
+/* Modes: 0, or this one, with a waiting limit of 1 to 86,400,000 ms, which is 0 without it. Where a record would wait without a timer,
+ * the limit is then its deadline, told and fired like any other. At its end a responder's record whose Invoke is still being verified
+ * ends silently, an initiator's that was held on ends with an abort (provider, WTP_REASON_NORESPONSE), and a responder's that has sent
+ * a hold-on sends that Abort, shows it and ends. Without the mode such a record stays until a PDU or its user ends it. */
+#define WTP_MODE_WAITING_LIMIT 1
 
 /* The bytes of a table for 1 to 48 records, else 0. */
 uint64_t wtp_table_bytes(uint64_t records);
 
 /* Makes a table fresh, whatever it held: no live record, nothing cached, clock 0, these settings, and `first_tid` for the first request.
- * 1: not the size of a table for 1 to 48 records; 10: not 32 words, or one of them or `first_tid` out of range. */
+ * 1: not the size of a table for 1 to 48 records; 10: not 32 words, or one of them or `first_tid` out of range, also a mode that
+ * there isn't, and a waiting limit without its mode or the mode without one. */
 uint64_t wtp_fresh(uint8_t *table, size_t table_len, const uint64_t *settings, size_t settings_len, uint64_t first_tid);
 
 /* The engine's seven calls share their first parameters. `table` is one that wtp_fresh made, `store` has 1,024 octets for each of its

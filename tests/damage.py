@@ -1,7 +1,7 @@
 #!/usr/bin/env python3
 """Writes how many damaged tables must be refused: tests/damage/expected.txt.
 
-An independent reading of document 01's "well formed" (document 02 as far as it has landed: L2) over the layout of docs/TABLE.md; nothing
+An independent reading of document 01's "well formed" (document 02 as far as it has landed: L2, L6) over the layout of docs/TABLE.md; nothing
 here is taken from the definitions or the code.
 usage: tests/damage.py [--check]
 """
@@ -12,7 +12,7 @@ import sys
 
 HEADER, RECORD, COUNT = 624, 176, 2
 # where the fields of docs/TABLE.md start, RCR_MAX with AEC_MAX, A with W, R with R, RCR with AEC and flags with the exit length taken together
-FIELDS = [0, 8, 10, 12, 20, 92, 97, 98, 112] + [HEADER + RECORD * i + at for i in range(COUNT) for at in (0, 1, 2, 4, 6, 8, 16, 20, 48)] + [HEADER + RECORD * COUNT]
+FIELDS = [0, 8, 10, 12, 20, 92, 96, 97, 98, 112] + [HEADER + RECORD * i + at for i in range(COUNT) for at in (0, 1, 2, 4, 6, 8, 16, 20, 24, 48)] + [HEADER + RECORD * COUNT]
 
 
 def number(octets):
@@ -23,8 +23,10 @@ def number(octets):
 @functools.lru_cache
 def header_ok(t):
     intervals, caches = struct.unpack("<20I", t[12:92]), struct.unpack("<256H", t[112:HEADER])
+    modes, limit = t[96], number(t[92:96])
     return (number(t[0:8]) <= 10 ** 12 and number(t[8:10]) <= 32767 and t[10] <= 8 and t[11] <= 8
-            and min(intervals) >= 1 and max(intervals) <= 86400000 and not any(t[92:97]) and t[97] <= 1 and not any(t[98:112]) and max(caches) <= 32768)
+            and min(intervals) >= 1 and max(intervals) <= 86400000 and t[97] <= 1 and not any(t[98:112]) and max(caches) <= 32768
+            and (limit == 0 if modes == 0 else modes == 1 and 1 <= limit <= 86400000))
 
 
 @functools.lru_cache
@@ -32,7 +34,7 @@ def record_ok(r, rcr_max, aec_max):
     if r[0] == 0:
         return not any(r)
     return (r[0] <= 11 and number(r[2:4]) <= 32767 and r[4] <= rcr_max and r[5] <= aec_max and r[6] <= (31 if r[0] <= 4 else 15) and r[7] <= 128
-            and number(r[8:16]) <= 10 ** 12 + 86400000 and number(r[16:20]) <= 1024 and not any(r[20:48]))
+            and number(r[8:16]) <= 10 ** 12 + 86400000 and number(r[16:20]) <= 1024 and number(r[20:24]) <= 86400000 and not any(r[24:48]))
 
 
 def name(r):
@@ -72,6 +74,9 @@ table[HEADER], table[HEADER + RECORD], table[HEADER + RECORD + 1] = 2, 2, 1
 text += ["the same with both records live"] + damaged(table)
 table[HEADER + 6], table[HEADER + RECORD] = 16, 8
 text += ["an initiator whose Invoke carries TIDnew, and a responder"] + damaged(table)
+table[92], table[96] = 1, 1
+table[HEADER + 20:HEADER + 24] = (86400000).to_bytes(4, "little")
+text += ["the same with a waiting limit of 1, the first record with the longest in force"] + damaged(table)
 text = "\n".join(text) + "\n"
 path = pathlib.Path(__file__).resolve().parent / "damage" / "expected.txt"
 if "--check" in sys.argv[1:]:

@@ -1,13 +1,13 @@
-"""An engine read from document 01 ("Numbers given back", "TIDs", "Events"), from document 02 as far as it has landed (L3, L2), from the
-C interface's words and from docs/TABLE.md, and not from the definitions: a second opinion on what each call gives. It notes in `reached`
+"""An engine read from document 01 ("Numbers given back", "TIDs", "Events"), from document 02 as far as it has landed (L3, L2, L6), from
+the C interface's words and from docs/TABLE.md, and not from the definitions: a second opinion on what each call gives. It notes in `reached`
 each row, test and refusal that a call meets.
 """
 
 BOUND = 10 ** 12
 LONGEST = 86400000
 HEADER, RECORD, CELL = 624, 176, 1024
-SPARE, EXIT = 20, 48
-TIDNEW_DUE, CACHE = 97, 112
+LIMIT, SPARE, EXIT = 20, 24, 48
+WAITING_LIMIT, MODES, TIDNEW_DUE, CACHE = 92, 96, 97, 112
 INITIATOR, RESPONDER = 0, 1
 ROLES = ["initiator", "responder"]
 STATES = ["Free", "IResultWait1", "IResultWait2", "IResultRespWait", "IWaitTimeout", "RTidokWait1", "RTidokWait2",
@@ -29,11 +29,12 @@ class Record:
         self.state, self.peer, self.tid, self.rcr, self.aec = STATES[w[0]], w[1], number(w[2:4]), w[4], w[5]
         self.up, self.held, self.tidok_sent, self.hold_on_sent, self.tidnew = (w[6] >> k & 1 for k in range(5))
         self.deadline, self.length, self.exit, self.past_exit = number(w[8:16]), number(w[16:20]), bytes(w[EXIT:EXIT + w[7]]), bytes(w[EXIT:RECORD])
+        self.limit = number(w[LIMIT:SPARE])
 
     def octets(self):
         marks = self.up + 2 * self.held + 4 * self.tidok_sent + 8 * self.hold_on_sent + 16 * self.tidnew
         w = bytes([STATES.index(self.state), self.peer]) + self.tid.to_bytes(2, "little") + bytes([self.rcr, self.aec, marks, len(self.exit)])
-        w += self.deadline.to_bytes(8, "little") + self.length.to_bytes(4, "little") + bytes(EXIT - SPARE)
+        w += self.deadline.to_bytes(8, "little") + self.length.to_bytes(4, "little") + self.limit.to_bytes(4, "little") + bytes(EXIT - SPARE)
         return w + self.exit + self.past_exit[len(self.exit):]
 
     def live(self):
@@ -56,14 +57,14 @@ class Table:
         self.clock, self.gen, self.rcr_max, self.aec_max = number(t[0:8]), number(t[8:10]), t[10], t[11]
         x = [number(t[at:at + 4]) for at in range(12, 92, 4)]
         self.a, self.w, self.rows = x[0], x[1], [x[2:11], x[11:20]]
-        self.tidnew_due = t[TIDNEW_DUE]
+        self.limit, self.modes, self.tidnew_due = number(t[WAITING_LIMIT:MODES]), t[MODES], t[TIDNEW_DUE]
         self.last = [number(t[at:at + 2]) - 1 for at in range(CACHE, HEADER, 2)]
         self.records = [Record(t[at:at + RECORD]) for at in range(HEADER, len(t), RECORD)]
 
     def octets(self):
         t = self.clock.to_bytes(8, "little") + self.gen.to_bytes(2, "little") + bytes([self.rcr_max, self.aec_max])
         t += b"".join(x.to_bytes(4, "little") for x in [self.a, self.w] + self.rows[0] + self.rows[1])
-        t += bytes(TIDNEW_DUE - len(t)) + bytes([self.tidnew_due]) + bytes(CACHE - TIDNEW_DUE - 1)
+        t += self.limit.to_bytes(4, "little") + bytes([self.modes, self.tidnew_due]) + bytes(CACHE - TIDNEW_DUE - 1)
         t += b"".join((x + 1).to_bytes(2, "little") for x in self.last)
         return t + b"".join(r.octets() for r in self.records)
 
@@ -74,11 +75,16 @@ class Table:
         return next((r for r in self.records if not r.live()), None)
 
 
+def limit_ok(modes, limit):
+    """02, L6: the mode is off and there is no limit, or it is on with one of 1 to 86,400,000; no other mode is built."""
+    return (modes, limit) == (0, 0) or modes == 1 and 1 <= limit <= LONGEST
+
+
 def well_formed(t):
     """01: all fields in range, free records zero, no two live records with the same role, peer and TID."""
-    if number(t[0:8]) > BOUND or number(t[8:10]) > 32767 or t[10] > 8 or t[11] > 8 or t[TIDNEW_DUE] > 1 or any(t[92:TIDNEW_DUE]) or any(t[TIDNEW_DUE + 1:CACHE]):
+    if number(t[0:8]) > BOUND or number(t[8:10]) > 32767 or t[10] > 8 or t[11] > 8 or t[TIDNEW_DUE] > 1 or any(t[TIDNEW_DUE + 1:CACHE]):
         return False
-    if not all(1 <= number(t[at:at + 4]) <= LONGEST for at in range(12, 92, 4)):
+    if not all(1 <= number(t[at:at + 4]) <= LONGEST for at in range(12, 92, 4)) or not limit_ok(t[MODES], number(t[WAITING_LIMIT:MODES])):
         return False
     if any(number(t[at:at + 2]) > 32768 for at in range(CACHE, HEADER, 2)):
         return False
@@ -91,7 +97,7 @@ def well_formed(t):
             continue
         if w[0] > 11 or number(w[2:4]) > 32767 or w[4] > t[10] or w[5] > t[11] or w[6] > (31 if w[0] <= 4 else 15) or w[7] > 128 or any(w[SPARE:EXIT]):
             return False
-        if number(w[8:16]) > BOUND + LONGEST or number(w[16:20]) > CELL:
+        if number(w[8:16]) > BOUND + LONGEST or number(w[16:20]) > CELL or number(w[LIMIT:SPARE]) > LONGEST:
             return False
         names.append((w[0] <= 4, w[1], number(w[2:4])))
     return len(set(names)) == len(names)
@@ -200,7 +206,12 @@ class Call:
         self.shown.append((kind, r.role(), r.peer, r.tid, cls, up, abort_type, reason) + place)
 
     def start(self, r, interval):
-        r.deadline = self.time + interval
+        r.deadline, r.limit = self.time + interval, 0
+
+    def start_none(self, r, row):
+        """01: no timer, or it stops. 02, L6: with the mode on the limit is then the deadline."""
+        reached.add(("no timer", row, "limit" if self.t.modes else "no limit"))
+        r.deadline, r.limit = self.time + self.t.limit if self.t.modes else 0, self.t.limit
 
     def provider_abort(self, r, reason):
         self.sent = pdu(0x20, r.role(), r.tid, [reason])
@@ -232,6 +243,9 @@ def send_last_ack(c, r, state, exit_info):
 
 def i_result_wait(c, r, event, p, given):
     interval = c.t.rows[r.cls() - 1]
+    if event == "timer" and r.cls() == 2 and r.held and r.limit:
+        c.meet(r.state, event, "HeldOnWaitEnds", "HoldOn, limit")
+        return c.give_up(r)
     if event in ("Tve", "Tve RID", "timer"):
         if r.rcr == c.t.rcr_max:
             c.meet(r.state, event, "GivenUp" if event == "timer" else "Ignored", "RCR = RCR_MAX")
@@ -255,8 +269,8 @@ def i_result_wait(c, r, event, p, given):
             return c.meet(r.state, event, "Ignored", "HoldOn")
         c.meet(r.state, event, "HeldOn", "not HoldOn")
         c.show("confirm", r, info)
-        r.held, r.deadline = 1, 0
-        return None
+        r.held = 1
+        return c.start_none(r, "HeldOn")
     if event.startswith("Result") and r.cls() == 2:
         if not p.ttr:
             c.meet(r.state, event, "ResultUnsupported")
@@ -306,6 +320,9 @@ def r_tidok_wait(c, r, event, p, given):
         c.meet(r.state, event, "TidveRepeated")
         c.sent = pdu(0x1D, RESPONDER, r.tid)
         return None
+    if event == "timer" and r.limit:
+        c.meet(r.state, event, "TidokWaitEnds", "limit")
+        return r.free()
     return no_row(c, r, event)
 
 
@@ -320,7 +337,8 @@ def send_result(c, r, event, octets):
 def hold_on(c, r, event, condition=""):
     c.meet(r.state, event, "HoldOnSent", condition)
     c.sent = pdu(0x18, RESPONDER, r.tid)
-    r.hold_on_sent, r.deadline, r.state = 1, 0, "RResultWait"
+    c.start_none(r, "HoldOnSent in " + r.state)
+    r.hold_on_sent, r.state = 1, "RResultWait"
 
 
 def r_invoke_resp_wait(c, r, event, p, given):
@@ -346,6 +364,9 @@ def r_invoke_resp_wait(c, r, event, p, given):
 def r_result_wait(c, r, event, p, given):
     if event == "result":
         return send_result(c, r, event, given)
+    if event == "timer" and r.hold_on_sent and r.limit:
+        c.meet(r.state, event, "ResultWaitEnds", "hold-on sent, limit")
+        return c.provider_abort(r, 8)
     if event == "timer":
         return hold_on(c, r, event)
     if event == "Invoke RID":
@@ -390,7 +411,15 @@ def no_row(c, r, event):
 
 
 def turn(c, r, event, p=None, given=b""):
-    """An event at a live record: the abort row of every state, then the state's own rows."""
+    """An event at a live record, and what it does with a limit in force."""
+    state, limit = r.state, r.limit
+    act(c, r, event, p, given)
+    if limit and not c.refusal:
+        reached.add(("limit in force", state, "freed" if not r.live() else "stays" if r.limit else "a timer again"))
+
+
+def act(c, r, event, p, given):
+    """The abort row of every state, then the state's own rows."""
     unseen = r.state.startswith("RTidokWait")
     if event == "abort":
         c.meet(r.state, event, "NotAllowed" if unseen else "UserAborts")
@@ -462,6 +491,7 @@ def first_invoke(c, peer, p):
         c.t.last[peer] = -1 if tidnew else last
         r.state = "RTidokWait%d" % cls
         c.keep(r, c.lent[start:start + length])
+        c.start_none(r, row % cls)
         c.sent = pdu(0x1C, RESPONDER, p.tid)
 
 
@@ -656,12 +686,13 @@ def make_fresh(end, first):
     if table_size_wrong(end):
         reached.add(("fresh", 1, ""))
         return 1
-    good = (len(words) == 32 and words[0] <= 8 and words[1] <= 8 and all(1 <= x <= LONGEST for x in words[2:22]) and not any(words[22:])
-            and first <= 32767)
+    good = (len(words) == 32 and words[0] <= 8 and words[1] <= 8 and all(1 <= x <= LONGEST for x in words[2:22]) and limit_ok(words[22], words[23])
+            and not any(words[24:]) and first <= 32767)
     reached.add(("fresh", 0 if good else 10, ""))
     if not good:
         return 10
     t = Table(bytes(table_bytes(n)))
     t.tidnew_due, t.gen, (t.rcr_max, t.aec_max, t.a, t.w), t.rows = 1, first, words[:4], [words[4:13], words[13:22]]
+    t.modes, t.limit = words[22:24]
     end.octets[:lent(end, 0)] = t.octets()
     return 0

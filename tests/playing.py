@@ -38,10 +38,11 @@ def answer_text(end, c, s=b"", name=""):
 
 def look_text(end):
     t = Table(end.octets[:table_bytes(end.records)])
-    text = ": clock %d, next TID %d" % (t.clock, t.gen) + ", TIDnew due" * t.tidnew_due + "".join(", last of %d is %d" % (p, x) for p, x in enumerate(t.last) if x >= 0)
+    text = ": clock %d, next TID %d" % (t.clock, t.gen) + ", TIDnew due" * t.tidnew_due + (", waiting limit %d" % t.limit if t.modes else "")
+    text += "".join(", last of %d is %d" % (p, x) for p, x in enumerate(t.last) if x >= 0)
     for k, r in enumerate(t.records):
         if r.live():
-            text += "; record %d %s %d/%d RCR %d AEC %d due %d length %d" % (k, r.state, r.peer, r.tid, r.rcr, r.aec, r.deadline, r.length)
+            text += "; record %d %s %d/%d RCR %d AEC %d due %d%s length %d" % (k, r.state, r.peer, r.tid, r.rcr, r.aec, r.deadline, " limit %d" % r.limit if r.limit else "", r.length)
             text += "".join(" " + mark for mark, on in (("user-ack", r.up), ("HoldOn", r.held), ("TIDok-sent", r.tidok_sent), ("hold-on-sent", r.hold_on_sent), ("TIDnew", r.tidnew)) if on)
             text += " exit " + text_of(r.exit) if r.exit else ""
     return text

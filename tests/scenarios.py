@@ -10,7 +10,7 @@ usage: tests/scenarios.py [--check]   (--check: only say whether both files are 
 import pathlib
 import sys
 
-from engine import BOUND, CLASS, ROLES, STATES, ends, reached, table_bytes
+from engine import BOUND, CLASS, ROLES, STATES, Table, ends, reached, table_bytes
 from playing import (G, R, abo, ans, due, edge, expected, fir, fires, fresh, get, lends, lines, look, octets, pair, put, rcv, req, res, sets, size, tim, title, titles)
 
 
@@ -265,10 +265,10 @@ def tids():
     req(R, 10, 5, 2), rcv(R, 20, 5, "168007"), rcv(R, 30, 5, "1C8007", has="{IResultRespWait TidAck Ignored}")
 
 
-def as_read(records, first):
+def as_read(records, first, **words):
     """Two fresh ends with the settings of the examples of document 02's reading: RCR_MAX 2, AEC_MAX 1, A 100, W 200, R 50 and 150 growing by 10."""
     rows = {"_%d" % (at + k): start + 10 * k for at, start in ((4, 50), (13, 150)) for k in range(9)}
-    pair(records, first, _0=2, _1=1, _2=100, _3=200, **rows)
+    pair(records, first, _0=2, _1=1, _2=100, _3=200, **rows, **words)
 
 
 def tidnew():
@@ -455,9 +455,9 @@ def malformed():
 
 # ---- every event in every state
 
-def reach(state, up=0, exit_info=""):
+def reach(state, up=0, exit_info="", **words):
     """Peer 5, TID 7 in this state, with a message AA BB; initiator at the reader, responder at the gateway. Gives the end and its role."""
-    pair()
+    pair(**words)
     cls = CLASS.get(state, 2)
     if state[0] == "I":
         req(R, 100, 5, cls, up, "AABB")
@@ -683,13 +683,211 @@ def timer_in_two():
     req(R, 10, 5, 1)
     for sizes in ((975, 2048, 1100, 33, 32), (977, 2048, 1100, 33, 32), (624, 0, 1100, 33, 32), (0, 0, 1100, 33, 32), (9248, 50176, 1100, 33, 32), (976, 2048, 1100, 4, 32), (976, 2048, 1100, 0, 32)):
         lends(*sizes), due(R, has="refused 1")
-    lends(976, 0, 0, 5, 32), due(R, has="; 2010 initiator 5/7"), lends(), put(R, 644, 1), due(R, has="refused 1"), put(R, 644, 0), due(R, has="; 2010 initiator 5/7")
+    lends(976, 0, 0, 5, 32), due(R, has="; 2010 initiator 5/7"), lends(), put(R, 648, 1), due(R, has="refused 1"), put(R, 648, 0), due(R, has="; 2010 initiator 5/7")
     title("firing: 1, 2, 3, 8, 9, the lowest first; a role that is none and a TID with its top bit have no live record")
     pair()
     req(R, 10, 5, 1), put(R, 100, 1), fir(R, 9, 2, 256, 7, has="refused 1"), put(R, 100, 0), fir(R, 9, 2, 256, 7, has="refused 2"), fir(R, 10, 2, 256, 7, has="refused 3"), fir(R, 10, 0, 2 ** 64 - 1, 7, has="refused 3")
     for name in ((2, 5, 7), (2 ** 64 - 1, 5, 7), (1, 5, 7), (0, 6, 7), (0, 5, 8), (0, 5, 0x8007), (0, 5, 65536 + 7), (0, 5, 2 ** 64 - 1)):
         fir(R, 10, *name, has="refused 8")
     fir(R, 10, 0, 5, 7, has="refused 9"), fir(R, 2009, 0, 5, 7, has="refused 9"), look(R, has=": clock 10,"), fir(R, 2010, 0, 5, 7, has="; sent 0F000721; fired initiator 5/7")
+
+
+LIMIT = {"_22": 1, "_23": 5000}
+
+
+def held_on():
+    """An initiator's record 7/5 that was held on at 10, with a waiting limit of 5,000."""
+    as_read(2, 5, **LIMIT)
+    req(R, 0, 7, 2), rcv(R, 10, 7, "188005", has="HeldOn}; confirm initiator 7/5"), due(R, has="; 5010 initiator 7/5")
+
+
+def shown_at_gateway(up=0):
+    """A responder's record 7/64 of class 2 whose Invoke was shown at 10, with a waiting limit of 5,000."""
+    as_read(2, 5, **LIMIT)
+    put(G, 112 + 14, 0x40), rcv(G, 10, 7, "0E0040%d2 CC" % up, has="Valid2}"), due(G, has="; 110 responder 7/64")
+
+
+def waiting_limit():
+    title("02, L6: the reading's examples with limit 5,000. TIDOK WAIT ends silently")
+    as_read(2, 5, **LIMIT)
+    look(G, has="TIDnew due, waiting limit 5000")
+    rcv(G, 0, 7, "0E004002 CC", has="; sent 1C8040"), due(G, has="; 5000 responder 7/64"), look(G, has="RTidokWait2 7/64 RCR 0 AEC 0 due 5000 limit 5000 length 1")
+    rcv(G, 4000, 7, "0F004002 CC", has="; sent 1D8040"), due(G, has="; 5000 responder 7/64"), tim(G, 4999, has="; none due")
+    tim(G, 5000, has="{RTidokWait2 Timer TidokWaitEnds}; fired responder 7/64"), assert_line(" {0: RTidokWait2 -> Free}; fired responder 7/64")
+    rcv(G, 5000, 7, "1C0040", has="{Free TidAck Ignored}"), look(G, has=": clock 5000, next TID 5, TIDnew due, waiting limit 5000")
+    title("held on: the wait ends with an abort and no PDU; a later plain Ack leaves the limit")
+    held_on()
+    rcv(R, 3000, 7, "198005", has="Ignored}"), due(R, has="; 5010 initiator 7/5"), look(R, has="due 5010 limit 5000 length 0 HoldOn")
+    tim(R, 5009, has="; none due"), tim(R, 5010, has="{IResultWait2 Timer HeldOnWaitEnds}"), assert_line(" {0: IResultWait2 -> Free}; fired initiator 7/5; abort initiator 7/5 reason 8 no data")
+    title("held on and then a TIDve: an ordinary timer again, which a later plain Ack doesn't stop and which starts no limit")
+    held_on()
+    rcv(R, 3000, 7, "1C8005", has="TidokSent}; sent 1C0005"), due(R, has="; 3160 initiator 7/5"), rcv(R, 3001, 7, "188005", has="Ignored}"), due(R, has="; 3160 initiator 7/5"), look(R, has="due 3160 length 0 HoldOn TIDok-sent")
+    tim(R, 3160, has="Resent}; sent 1D0005"), due(R, has="; 3330 initiator 7/5"), rcv(R, 3170, 7, "1C8005", has="Ignored}"), due(R, has="; 3330 initiator 7/5")
+    tim(R, 3330, has="GivenUp}; fired initiator 7/5; abort initiator 7/5 reason 8")
+    title("the responder's RESULT WAIT after its hold-on: Abort 8 and an abort; a repeated hold-on leaves the limit")
+    shown_at_gateway()
+    tim(G, 110, has="HoldOnSent}; sent 188040"), due(G, has="; 5110 responder 7/64"), rcv(G, 200, 7, "0F004002 CC", has="HoldOnRepeated}; sent 198040"), due(G, has="; 5110 responder 7/64"), look(G, has="due 5110 limit 5000 length 0 hold-on-sent")
+    tim(G, 5109, has="; none due"), tim(G, 5110, has="{RResultWait Timer ResultWaitEnds}"), assert_line(" {0: RResultWait -> Free}; sent 20804008; fired responder 7/64; abort responder 7/64 reason 8 no data")
+    limits_fired()
+    limits_left()
+    limits_ended()
+    limits_off_and_made_up()
+    limits_refused()
+    firings_bounded()
+
+
+def assert_line(end):
+    """The line before gives exactly this after its number."""
+    assert expected[-1].endswith(": ok" + end), expected[-1]
+
+
+def limits_fired():
+    title("each limit fired by name, as by the timer: one millisecond before, it isn't due")
+    for cls in (1, 2):
+        pair(**LIMIT)
+        rcv(G, 100, 5, "0E00070%d AABB" % cls, has="; sent 1C8007"), fires(G, 1, has="{RTidokWait%d Timer TidokWaitEnds}; fired responder 5/7" % cls), fir(G, 9000, 1, 5, 7, has="refused 8")
+        rcv(G, 9000, 5, "0E00070%d" % cls, has="ToVerify%d}" % cls), tim(G, 14000, has="TidokWaitEnds}")
+    pair(**LIMIT)
+    req(R, 0, 5, 2), rcv(R, 10, 5, "188007"), fires(R, 0, has="HeldOnWaitEnds}; fired initiator 5/7; abort initiator 5/7 reason 8 no data")
+    pair(**LIMIT)
+    rcv(G, 100, 5, "0E000702"), rcv(G, 200, 5, "1C0007"), fires(G, 1, has="HoldOnSent}; sent 188007"), fires(G, 1, has="ResultWaitEnds}; sent 20800708; fired responder 5/7; abort responder 5/7 reason 8")
+    title("of a limit and a timer the earlier is told and fired first; a table that is full of half-open transactions comes free by itself")
+    pair(records=2, **LIMIT)
+    rcv(G, 0, 5, "0E000901"), rcv(G, 10, 6, "0E000902"), rcv(G, 20, 7, "0E000702", has="{Free Invoke Ignored}"), due(G, has="; 5000 responder 5/9"), tim(G, 5000, has="fired responder 5/9"), due(G, has="; 5010 responder 6/9")
+    rcv(G, 5000, 7, "0F000702", has="ToVerify2}; sent 1C8007"), rcv(G, 5001, 7, "1C0007", has="Verified2}"), due(G, has="; 5010 responder 6/9"), tim(G, 5010, has="fired responder 6/9"), due(G, has="; 6001 responder 7/7")
+    title("the end of TIDOK WAIT leaves LastTID: a cached one stays, one that TIDnew dropped stays dropped; other peers' stay")
+    for fourth, has in (("01", ", last of 5 is 9, last of 6 is 3"), ("02", ", last of 5 is 9, last of 6 is 3"), ("21", "waiting limit 5000, last of 6 is 3"), ("22", "waiting limit 5000, last of 6 is 3")):
+        pair(**LIMIT)
+        put(G, 112 + 10, 10), put(G, 112 + 12, 4), rcv(G, 0, 5, "0E0009" + fourth, has="; sent 1C8009"), tim(G, 5000, has="TidokWaitEnds}"), look(G, has=has)
+    title("a limit has no cap: at the last time it lies 86,400,000 past the bound, is told and never due")
+    pair(_22=1, _23=86400000)
+    rcv(G, BOUND, 5, "0E000701"), due(G, has="; 1000086400000 responder 5/7"), tim(G, BOUND, has="; none due"), look(G, has="due 1000086400000 limit 86400000")
+
+
+def limits_left():
+    title("what has no row, and a refused primitive, leaves the limit: TIDOK WAIT, held on, RESULT WAIT of the responder")
+    for cls in (1, 2):
+        pair(**LIMIT)
+        rcv(G, 0, 5, "0E00070%d" % cls)
+        for text in ("0E000701", "0F000702", "180007", "190007", "2E000701", "36000701", "38000700"):
+            rcv(G, 10, 5, text)
+        ans(G, 20, 1, 5, 7, has="refused 9"), res(G, 20, 1, 5, 7, has="refused 9"), abo(G, 20, 1, 5, 7, 0, has="refused 9"), due(G, has="; 5000 responder 5/7")
+    held_on()
+    for text in ("188005", "198005", "2E800501", "36800501", "38800500", "1880", "0E800502"):
+        rcv(R, 20, 7, text)
+    ans(R, 30, 0, 7, 5, has="refused 9"), res(R, 30, 0, 7, 5, has="refused 9"), due(R, has="; 5010 initiator 7/5"), look(R, has="limit 5000")
+    shown_at_gateway()
+    tim(G, 110, has="HoldOnSent}")
+    for text in ("0F004002", "0E004002", "180040", "1C0040", "1D0040", "2E004001", "38004000"):
+        rcv(G, 120, 7, text)
+    ans(G, 130, 1, 7, 64, has="refused 9"), ans(G, 130, 1, 7, 64, "AA", has="refused 4"), due(G, has="; 5110 responder 7/64"), look(G, has="limit 5000")
+    title("TIDve at RCR_MAX leaves the limit of a wait that was held on")
+    pair(_0=1, **LIMIT)
+    req(R, 0, 5, 2), rcv(R, 10, 5, "1C8007", has="; sent 1C0007"), rcv(R, 20, 5, "188007", has="HeldOn}"), due(R, has="; 5020 initiator 5/7"), rcv(R, 30, 5, "1C8007", has="Ignored}"), due(R, has="; 5020 initiator 5/7")
+    tim(R, 5020, has="HeldOnWaitEnds}; fired initiator 5/7; abort initiator 5/7 reason 8")
+
+
+def limits_ended():
+    title("rows that start a timer end the limit: TIDok, a Result while held on, the user's result, and the user's answer, after which come A, hold-on, limit and end")
+    for cls in (1, 2):
+        pair(**LIMIT)
+        rcv(G, 0, 5, "0E00070%d" % cls), rcv(G, 10, 5, "1C0007", has="Verified%d}" % cls), due(G, has="; 1010 responder 5/7"), look(G, has="due 1010 length 0")
+    held_on()
+    rcv(R, 20, 7, "168005", has="ResultTaken}"), due(R, has="; 120 initiator 7/5"), look(R, has="due 120 length 0 HoldOn"), tim(R, 120, has="ResultAcked}"), look(R, has="IWaitTimeout 7/5 RCR 0 AEC 0 due 320 length 0"), tim(R, 320, has="TimeoutEnds}")
+    shown_at_gateway()
+    tim(G, 110, has="HoldOnSent}"), res(G, 120, 1, 7, 64, "DD", has="; sent 168040DD"), due(G, has="; 270 responder 7/64"), look(G, has="RResultRespWait 7/64 RCR 0 AEC 0 due 270 length 1 hold-on-sent")
+    shown_at_gateway(up=1)
+    ans(G, 20, 1, 7, 64, has="UserWorks}"), due(G, has="; 120 responder 7/64"), tim(G, 120, has="HoldOnSent}; sent 188040"), due(G, has="; 5120 responder 7/64"), tim(G, 5120, has="ResultWaitEnds}; sent 20804008")
+    title("an abort, a malformed PDU and the user's abort end such a wait as before")
+    for text, has in (("200007 08", "PeerAbortsUnseen}"), ("180007 00", "MalformedUnseen}; sent 20800701")):
+        for cls in (1, 2):
+            pair(**LIMIT)
+            rcv(G, 0, 5, "0E00070%d" % cls), rcv(G, 10, 5, text, has=has), due(G, has="; none")
+    held_on()
+    abo(R, 20, 0, 7, 5, 3, has="; sent 21000503"), due(R, has="; none")
+    shown_at_gateway()
+    tim(G, 110), rcv(G, 120, 7, "210040 05", has="; abort responder 7/64 type 1 reason 5"), due(G, has="; none")
+
+
+def limits_off_and_made_up():
+    title("with the mode off the same waits have no deadline")
+    as_read(3, 5)
+    rcv(G, 0, 7, "0E004001"), rcv(G, 0, 8, "0E004002"), rcv(G, 0, 9, "0E004022"), due(G, has="; none"), rcv(G, 0, 8, "1C0040"), rcv(G, 0, 9, "1C0040"), tim(G, 100, has="HoldOnSent}"), ans(G, 100, 1, 9, 64), tim(G, 200, has="HoldOnSent}"), due(G, has="; none")
+    req(R, 0, 7, 2), rcv(R, 10, 7, "188005", has="HeldOn}"), due(R, has="; none"), look(R, has="next TID 6; record 0 IResultWait2 7/5 RCR 0 AEC 0 due 0 length 0 HoldOn")
+    title("a made-up table: whether a firing is a limit's the record says and not the mode; in other waits, and without its flag, it is the timer's")
+    for words in ({}, LIMIT):
+        for cls in (1, 2):
+            e, role = reach("RTidokWait%d" % cls, **words)
+            set_due(e, 0, 0), tim(e, 500, has="{RTidokWait%d Timer Ignored}; fired responder 5/7" % cls), set_due(e, 0, 1), tim(e, 500, has="TidokWaitEnds}; fired responder 5/7")
+        e, role = reach("IResultWait2", **words)
+        set_due(e, 0, 1), tim(e, 500, has="Resent}; sent 0F000702AABB"), look(e, has="due 3600 length 2"), set_due(e, 2, 0), tim(e, 500, has="Resent}; sent 0F000702AABB"), set_due(e, 2, 1), tim(e, 500, has="HeldOnWaitEnds}")
+        e, role = reach("IResultWait1", **words)
+        set_due(e, 2, 1), tim(e, 500, has="Resent}; sent 0F000701AABB"), look(e, has="due 2600 length 2 HoldOn")
+        e, role = reach("RResultWait", **words)
+        set_due(e, 0, 1), tim(e, 500, has="HoldOnSent}; sent 188007"), look(e, has="due 5500 limit 5000 length 2 hold-on-sent" if words else "due 0 length 2 hold-on-sent")
+        set_due(e, 8, 0), tim(e, 500, has="HoldOnSent}; sent 188007"), set_due(e, 8, 1), tim(e, 500, has="ResultWaitEnds}; sent 20800708")
+        for state, has in (("IResultRespWait", "ResultAcked}; sent 180007"), ("IWaitTimeout", "TimeoutEnds}"), ("RInvokeRespWait1", "InvokeAcked}; sent 188007"), ("RInvokeRespWait2", "HoldOnSent}; sent 188007"),
+                           ("RResultRespWait", "ResultResent}; sent 178007DDEE"), ("RWaitTimeout", "TimeoutEnds}")):
+            e, role = reach(state, **words)
+            set_due(e, 10 if role else 18, 1), tim(e, 500, has=has), look(e)
+    title("a made-up table without the mode: the row that stops the timer ends a limit in force too, and so does one that starts A")
+    e, role = reach("IResultWait2")
+    set_due(e, 0, 9), rcv(e, 400, 5, "188007", has="HeldOn}"), look(e, has="due 0 length 2 HoldOn")
+    e, role = reach("RInvokeRespWait2", up=1)
+    set_due(e, 1, 9), tim(e, 500, has="UserAwaited}"), look(e, has="AEC 1 due 1500 length 2 user-ack")
+
+
+def set_due(e, flags, limit):
+    """The record at place 0 is due from 256 on, with these flags and this limit in force."""
+    for at, octet in zip(range(632, 640), (0, 1, 0, 0, 0, 0, 0, 0)):
+        if ends[e].octets[at] != octet:
+            put(e, at, octet)
+    put(e, 630, flags), put(e, 644, limit % 256), put(e, 645, 0)
+
+
+def limits_refused():
+    title("number 10: a limit of 0 or over 86,400,000 with the mode on, one with it off, a mode that isn't built, words 24 to 31; nothing has changed")
+    pair()
+    for modes, limit in ((1, 0), (1, 86400001), (1, 2 ** 32), (1, 2 ** 32 + 5000), (1, 2 ** 64 - 1), (0, 1), (0, 5000), (0, 86400000), (2, 0), (2, 5000), (3, 5000), (4, 0), (4, 5000), (8, 0), (8, 5000), (256, 0), (257, 5000), (2 ** 64 - 1, 5000)):
+        sets(_22=modes, _23=limit), fresh(R, 2, 7, has="refused 10")
+    for word in range(24, 32):
+        sets(**{"_%d" % word: 1}, **LIMIT), fresh(R, 2, 7, has="refused 10")
+    look(R, has=": clock 0, next TID 7, TIDnew due")
+    for modes, limit, has in ((0, 0, "TIDnew due"), (1, 1, "waiting limit 1"), (1, 86400000, "waiting limit 86400000")):
+        sets(_22=modes, _23=limit), fresh(R, 2, 7), look(R, has=has)
+    title("number 1: modes and limit of a table that don't go together, and a record's limit out of range, in every state")
+    pair(**LIMIT)
+    for at, value in ((96, 0), (96, 2), (96, 3), (95, 6), (95, 255)):
+        was = ends[R].octets[at]
+        put(R, at, value), every_call("refused 1"), due(R, has="refused 1"), put(R, at, was)
+    put(R, 92, 0), put(R, 93, 0), tim(R, 10, has="refused 1"), put(R, 92, 1), tim(R, 10, has="; none due")
+    for state in STATES[1:]:
+        e, role = reach(state)
+        for at, octet in zip(range(644, 648), (0, 92, 38, 5)):
+            put(e, at, octet)
+        tim(e, 400, has="; none due"), put(e, 644, 1), tim(e, 400, has="refused 1"), put(e, 644, 0), put(e, 647, 6), tim(e, 400, has="refused 1"), put(e, 647, 5), due(e, has=": ok")
+
+
+def firings_bounded():
+    title("firings alone free a record within 1 + max(RCR_MAX, AEC_MAX, 1) of them; RCR_MAX + 1, AEC_MAX + 1 and 2 are attained")
+    for rcr_max, aec_max in ((0, 0), (8, 0), (0, 8), (2, 3)):
+        bound = 1 + max(rcr_max, aec_max, 1)
+        runs = [("IResultWait1", 0, rcr_max + 1), ("IResultWait2", 1, rcr_max + 1), ("RResultRespWait", 0, rcr_max + 1), ("IResultRespWait", 1, aec_max + 1), ("RInvokeRespWait1", 1, aec_max + 1), ("RInvokeRespWait2", 1, aec_max + 1),
+                ("IResultRespWait", 0, 2), ("RInvokeRespWait1", 0, 2), ("RInvokeRespWait2", 0, 2), ("RResultWait", 0, 2), ("RTidokWait1", 0, 1), ("RTidokWait2", 0, 1), ("IWaitTimeout", 0, 1), ("RWaitTimeout", 0, 1)]
+        for state, up, times in runs:
+            e, role = reach(state, up=up, _0=rcr_max, _1=aec_max, **LIMIT)
+            assert fired_until_free(e) == times <= bound, (state, up)
+        assert bound == max(times for _, _, times in runs)
+
+
+def fired_until_free(e):
+    """Fires the one live record at its own deadlines until it is free; how often."""
+    times = 0
+    while (record := Table(ends[e].octets[:table_bytes(ends[e].records)]).records[0]).live():
+        tim(e, record.deadline, has="; fired ")
+        times += 1
+    due(e, has="; none")
+    return times
 
 
 def refusals():
@@ -704,7 +902,7 @@ def refusals():
     for n in (31, 33, 0):
         lends(800, 0, 0, 0, n), fresh(R, 1, has="refused 10")
     lends()
-    for k, v in ((0, 9), (1, 9), (2, 0), (2, 86400001), (3, 0), (3, 86400001), (4, 0), (12, 0), (12, 86400001), (13, 0), (21, 0), (21, 86400001), (22, 1), (31, 1), (0, 2 ** 64 - 1), (2, 2 ** 32 + 5)):
+    for k, v in ((0, 9), (1, 9), (2, 0), (2, 86400001), (3, 0), (3, 86400001), (4, 0), (12, 0), (12, 86400001), (13, 0), (21, 0), (21, 86400001), (24, 1), (31, 1), (0, 2 ** 64 - 1), (2, 2 ** 32 + 5)):
         sets(**{"_%d" % k: v}), fresh(R, 1, has="refused 10")
     for k, v in ((0, 0), (0, 8), (1, 0), (1, 8), (2, 1), (3, 86400000), (12, 1), (21, 86400000)):
         sets(**{"_%d" % k: v}), fresh(R, 1, 0)
@@ -725,7 +923,7 @@ def refusals():
     title("number 1: a damaged table, one field after the other, each mended again; the time is wrong as well")
     pair(records=2, _0=4, _1=2)
     tim(R, 50), req(R, 60, 5, 1), req(R, 70, 5, 2)
-    for at, value in ((7, 1), (9, 128), (10, 9), (11, 9), (15, 255), (23, 255), (92, 1), (96, 1), (97, 2), (98, 1), (111, 1), (113, 129), (624, 12), (624, 0), (627, 128), (628, 5), (629, 3), (630, 32), (631, 129), (639, 1), (641, 255), (644, 1), (671, 255)):
+    for at, value in ((7, 1), (9, 128), (10, 9), (11, 9), (15, 255), (23, 255), (92, 1), (95, 5), (96, 1), (96, 2), (97, 2), (98, 1), (111, 1), (113, 129), (624, 12), (624, 0), (627, 128), (628, 5), (629, 3), (630, 32), (631, 129), (639, 1), (641, 255), (647, 255), (648, 1), (671, 255)):
         was = ends[R].octets[at]
         put(R, at, value), tim(R, 49, has="refused 1"), put(R, at, was)
     put(R, 10, 9), req(R, 0, 256, 3, 0, "00" * 1025, has="refused 1"), put(R, 10, 4)
@@ -849,7 +1047,8 @@ def needed():
     counted = ["RCR < RCR_MAX, TIDok not sent", "RCR < RCR_MAX, TIDok sent", "RCR = RCR_MAX"]
     silent = ["no U/P", "U/P, AEC < AEC_MAX", "U/P, AEC = AEC_MAX"]
     held, exit_or_not, cache = ["not HoldOn", "HoldOn"], ["", "exit information"], ["none cached", "cached"]
-    conditions = {("IResultWait1", "timer"): counted, ("IResultWait2", "timer"): counted, ("IResultRespWait", "timer"): silent, ("IResultRespWait", "answer"): exit_or_not,
+    conditions = {("IResultWait1", "timer"): counted, ("IResultWait2", "timer"): counted + ["HoldOn, limit"], ("RTidokWait1", "timer"): ["", "limit"], ("RTidokWait2", "timer"): ["", "limit"],
+                  ("RResultWait", "timer"): ["", "hold-on sent, limit"], ("IResultRespWait", "timer"): silent, ("IResultRespWait", "answer"): exit_or_not,
                   ("RInvokeRespWait1", "timer"): silent, ("RInvokeRespWait2", "timer"): silent, ("RInvokeRespWait1", "answer"): exit_or_not,
                   ("RResultWait", "Invoke RID"): ["hold-on sent", "hold-on not sent"], ("RResultRespWait", "timer"): ["RCR < RCR_MAX", "RCR = RCR_MAX"],
                   ("RWaitTimeout", "Invoke RID"): exit_or_not, ("RWaitTimeout", "Tve RID"): exit_or_not}
@@ -875,6 +1074,9 @@ def needed():
     yield from (("first Invoke, class %d" % k, t, "TIDnew") for k in (1, 2) for t in ["a", "b", "c", "e", "g, d 1 to 16,383"] + distances)
     yield from (("request, class %d" % k, due, to_0) for k in (0, 1, 2) for due in ("due", "not due") for to_0 in ("", "GenTID to 0"))
     yield from (("Invoke again", tidnew, due) for tidnew in ("TIDnew", "no TIDnew") for due in ("due", "not due"))
+    without_timer = ["HeldOn", "HoldOnSent in RInvokeRespWait2", "HoldOnSent in RResultWait", "ToVerify1", "ToVerify2", "Restarted1", "Restarted2"]
+    yield from (("no timer", row, mode) for row in without_timer for mode in ("limit", "no limit"))
+    yield from (("limit in force", state, then) for state in ("RTidokWait1", "RTidokWait2", "IResultWait2", "RResultWait") for then in ("stays", "a timer again", "freed"))
     yield from (("timer", "fired", c) for c in ("alone", "later ones due", "a tie"))
     yield ("timer", "none due", "")
     yield from (("fire", "fired", c) for c in ("the earliest", "a later one"))
@@ -897,7 +1099,7 @@ EDGES = ["data 1,025 and peer 256", "data 1,025, class 3", "class 3 at a full ta
          "fresh: wrong size and bad setting", "6 refuses class 0 too"] + ["answer with exit information: class 2 responder in " + s for s in ("RTidokWait2", "RInvokeRespWait2", "RResultWait", "RResultRespWait")]
 ROWS = """Ignored NotAllowed PeerAborts Malformed UserAborts PeerAbortsUnseen MalformedUnseen TidokSent Confirmed HeldOn Resent GivenUp ResultUnsupported ResultConfirms ResultTaken ResultAnswered
           ResultAcked UserAwaited UserSilent ResultSeenAgain TimeoutEnds Verified1 Verified2 TidveRepeated InvokeAnswered InvokeAcked UserWorks HoldOnSent ResultSent HoldOnRepeated ResultResent
-          InvokeSeenAgain TidokSeenAgain"""
+          InvokeSeenAgain TidokSeenAgain TidokWaitEnds HeldOnWaitEnds ResultWaitEnds"""
 OPENINGS = "Ignored Requested0 Requested1 Requested2 Malformed WrongVersion Unsupported TooLong Shown0 Valid1 Valid2 ToVerify1 ToVerify2 Restarted1 Restarted2 UnknownTidve"
 
 transactions()
@@ -912,6 +1114,7 @@ in_every_state()
 acting_rows()
 timers()
 timer_in_two()
+waiting_limit()
 refusals()
 mixups()
 missed = [key for key in needed() if key not in reached]

@@ -1,5 +1,6 @@
-/* Four class 2 transactions between a reader (the initiator) and a gateway (the responder): a result with data, one whose
- * Invoke is lost and sent again, a result without data, and an abort. Each is shown to the reader as what it is. */
+/* Five class 2 transactions between a reader (the initiator) and a gateway (the responder): a result with data, one whose
+ * Invoke is lost and sent again, a result without data, an abort, and one that nobody answers, which the waiting limit ends.
+ * Each is shown to the reader as what it is. */
 #include <stdio.h>
 #include <stdlib.h>
 #include <string.h>
@@ -38,6 +39,8 @@ static void start(struct end *e)
     settings[WTP_W] = 30000;
     for (int k = 0; k < 9; k++)
         settings[WTP_R_CLASS_1 + k] = settings[WTP_R_CLASS_2 + k] = 5000;
+    settings[WTP_MODES] = WTP_MODE_WAITING_LIMIT;
+    settings[WTP_WAITING_LIMIT] = 60000;
     e->table_len = wtp_table_bytes(RECORDS);
     must(wtp_fresh(e->table, e->table_len, settings, WTP_SETTINGS, 5));
 }
@@ -99,17 +102,25 @@ static uint64_t ask(const char *question)
     return tid;
 }
 
-/* The Invoke is lost. With nothing to do until the next deadline, a device would sleep; then it fires the record that is due. */
+/* With nothing to do until its next deadline, a device would sleep; then it fires the record that is due. */
+static void sleep_and_fire(struct end *e, struct end *other)
+{
+    uint64_t due[WTP_DUE];
+    must(wtp_deadline(e->table, e->table_len, due, WTP_DUE));
+    if (!due[WTP_DUE_ANY])
+        return;
+    printf("the %s sleeps for %u ms\n", e->name, (unsigned)(due[WTP_DUE_AT] - now));
+    now = due[WTP_DUE_AT];
+    must(wtp_fire(LENT(e), now, due[WTP_DUE_ROLE], due[WTP_DUE_PEER], due[WTP_DUE_TID]));
+    show(e, e->out);
+    deliver(e, other);
+}
+
 static uint64_t ask_twice(const char *question)
 {
-    uint64_t tid = request(question), due[WTP_DUE];
-    must(wtp_deadline(reader.table, reader.table_len, due, WTP_DUE));
-    if (due[WTP_DUE_ANY]) {
-        printf("the reader's Invoke is lost; it sleeps for %u ms\n", (unsigned)(due[WTP_DUE_AT] - now));
-        now = due[WTP_DUE_AT];
-        must(wtp_fire(LENT(&reader), now, due[WTP_DUE_ROLE], due[WTP_DUE_PEER], due[WTP_DUE_TID]));
-        deliver(&reader, &gateway);
-    }
+    uint64_t tid = request(question);
+    printf("the reader's Invoke is lost\n");
+    sleep_and_fire(&reader, &gateway);
     return tid;
 }
 
@@ -131,5 +142,8 @@ int main(void)
     uint64_t tid = ask("sampler 20");
     must(wtp_abort(LENT(&gateway), ++now, WTP_RESPONDER, gateway.peer, tid, 200));
     deliver(&gateway, &reader);
+    ask("sampler 21"); /* the gateway's user never answers: a hold-on, and then the end of the waiting limit */
+    sleep_and_fire(&gateway, &reader);
+    sleep_and_fire(&gateway, &reader);
     return 0;
 }

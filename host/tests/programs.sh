@@ -193,6 +193,23 @@ stop "$process"
 check "each start was verified once, and no other upload" waits_for "gateway: 2 verifications begun, 6 results confirmed" "$work/restarts.log"
 check "an own address that isn't one" says 2 "isn't an address" reader --from nowhere "$one"
 
+echo "half-open transactions"
+# filled NAME PATIENCE: a gateway of four records, each taken by an Invoke whose sender never has its TID verified.
+filled() {
+    gateway "$1" --quiet --records 4 --patience "$2"
+    for tid in 1 2 3 4; do
+        datagram "\\016\\000\\00$tid\\002"
+    done
+}
+filled full 60000
+check "a gateway that is full has no answer" says 1 "NO ANSWER     none came" reader --gateway "$address" --interval 20 "$one"
+stop "$process"
+check "its records are all taken" waits_for "gateway: 4 verifications begun, 0 results confirmed" "$work/full.log"
+filled freed 600
+check "one whose waiting limit ends comes free by itself" says 0 "VALUE         NO2 41.2 ug/m3" reader --gateway "$address" --interval 200 "$one"
+stop "$process"
+check "and verifies once more" waits_for "gateway: 5 verifications begun, 1 results confirmed" "$work/freed.log"
+
 echo "frames of the Reliable Data Service"
 gateway frames --rds --loss 10
 check "a value on a bad line" says 0 "VALUE         NO2 41.2 ug/m3" reader --rds --gateway "$address" --interval 100 --loss 20 --duplicate 20 "$one"

@@ -58,6 +58,21 @@ static void no_answer(void)
     fires("Abort 8 and an abort shown: the user is silent", DUE + INTERVAL);
 }
 
+static void waits_end(void)
+{
+    verifying(RECORDS, 2);
+    fires("waiting limit: the TID isn't verified", DUE);
+    responders(RECORDS, RECORDS, 2);
+    fired(DUE, RECORDS);
+    fired(DUE + INTERVAL, LAST);
+    fires("waiting limit: Abort 8 and an abort shown, the last of 48 records", DUE + INTERVAL);
+    initiators(RECORDS, RECORDS, 2, 0);
+    receive(BEFORE, PEER, header(ACK, TO_INITIATOR | LAST));
+    made();
+    fired(DUE, LAST);
+    fires("waiting limit: held on, an abort shown, the last of 48 records", DUE);
+}
+
 static void nothing_fires(void)
 {
     initiators(RECORDS, RECORDS, 2, 0);
@@ -89,6 +104,7 @@ void timer_rows(void)
 {
     sent_again();
     no_answer();
+    waits_end();
     nothing_fires();
     in_two();
 }

@@ -1,10 +1,10 @@
 //! Damages a table: fields just in or out of range, octets at random, names twice, and odd records that are still well formed.
 
-use kit::layout::{self, Field};
+use kit::layout::{self, Field, LONGEST};
 use kit::Random;
 
 /// The fields of a record; what RCR and AEC may be is what the settings say.
-const OF_RECORD: [Field; 9] = [
+const OF_RECORD: [Field; 10] = [
     layout::STATE,
     layout::PEER,
     layout::TID,
@@ -14,6 +14,7 @@ const OF_RECORD: [Field; 9] = [
     layout::EXIT_LENGTH,
     layout::DEADLINE,
     layout::MESSAGE,
+    layout::LIMIT,
 ];
 
 /// Changes the table of so many records in one of several ways; it may still be well formed then.
@@ -21,7 +22,7 @@ pub fn damage(random: &mut Random, table: &mut [u8], records: usize) {
     let place = random.place(records);
     let of_header = header_field(random);
     let of_record = random.of(&OF_RECORD).of_record(place);
-    match random.below(12) {
+    match random.below(13) {
         0 => scribble(random, table, layout::table_bytes(records)),
         1 => set_edge(random, table, of_header),
         2 | 11 => {
@@ -34,6 +35,7 @@ pub fn damage(random: &mut Random, table: &mut [u8], records: usize) {
         6 => (0..records).for_each(|place| put_odd_record(random, table, place)),
         7 => free_with_one_octet(random, table, place),
         8 => set_in_range(random, table, of_header),
+        12 => limit_waits(random, table),
         _ => put_odd_record(random, table, place),
     }
 }
@@ -46,13 +48,15 @@ fn scribble(random: &mut Random, table: &mut [u8], octets: usize) {
 }
 
 fn header_field(random: &mut Random) -> Field {
-    match random.below(7) {
+    match random.below(9) {
         0 => layout::CLOCK,
         1 => layout::GEN_TID,
         2 => layout::RCR_MAX,
         3 => layout::AEC_MAX,
         4 => layout::TIDNEW_DUE,
-        5 => layout::INTERVAL.moved(4 * random.place(layout::INTERVALS)),
+        5 => layout::WAITING_LIMIT,
+        6 => layout::MODES,
+        7 => layout::INTERVAL.moved(4 * random.place(layout::INTERVALS)),
         _ => layout::CACHED.moved(2 * random.place(layout::PEERS)),
     }
 }
@@ -81,9 +85,15 @@ fn repeat_name(random: &mut Random, table: &mut [u8], records: usize) {
 
 fn spend_spare(random: &mut Random, table: &mut [u8], place: usize) {
     let of_record = layout::table_bytes(place) + random.of(&[layout::RECORD_SPARE, layout::EXIT - 1]);
-    let due = layout::TIDNEW_DUE.at;
-    let at = random.of(&[layout::SPARE, due - 1, due + 1, layout::CACHE - 1, of_record]);
+    let at = random.of(&[layout::SPARE, layout::CACHE - 1, of_record]);
     table[at] = random.of(&[0, 1, 255]);
+}
+
+/// Gives the table another waiting limit or none, whatever limits its records have in force; modes and limit mostly go together.
+fn limit_waits(random: &mut Random, table: &mut [u8]) {
+    let limit = random.of(&[0, 1, 3, 20, LONGEST, LONGEST + 1]);
+    layout::WAITING_LIMIT.set(table, limit);
+    layout::MODES.set(table, if random.percent(80) { u64::from(limit != 0) } else { random.below(4) });
 }
 
 /// Makes GenTID the TID of a record, so that a request finds it in use.
@@ -118,6 +128,7 @@ fn put_odd_record(random: &mut Random, table: &mut [u8], place: usize) {
         random.of(&[0, 1, 3, 4, 128]),
         odd_deadline(random, clock),
         random.of(&[0, 1, 7, 1023, 1024]),
+        random.of(&[0, 0, 1, 9, LONGEST]),
     ];
     OF_RECORD.iter().zip(values).for_each(|(field, value)| field.of_record(place).set(table, value));
     table[layout::table_bytes(place) + layout::RECORD_SPARE..exit].fill(0);

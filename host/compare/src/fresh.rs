@@ -5,8 +5,10 @@ use kit::Random;
 use wtp::ffi::SETTINGS;
 
 const INTERVALS: std::ops::Range<usize> = 2..22;
+const MODES: usize = 22;
+const WAITING_LIMIT: usize = 23;
 
-/// Good settings: short intervals mostly, the two rows of R with nine values each that differ.
+/// Good settings: short intervals mostly, the two rows of R with nine values each that differ, every other time a waiting limit.
 pub fn settings(random: &mut Random, words: &mut Vec<u64>) {
     words.clear();
     words.resize(SETTINGS, 0);
@@ -14,7 +16,20 @@ pub fn settings(random: &mut Random, words: &mut Vec<u64>) {
     words[1] = limit(random);
     let bound = random.of(&[3, 20, 50, 1000]);
     for interval in &mut words[INTERVALS] {
-        *interval = if random.percent(3) { LONGEST - random.below(2) } else { 1 + random.below(bound) };
+        *interval = short_mostly(random, bound);
+    }
+    if random.percent(50) {
+        words[MODES] = 1;
+        words[WAITING_LIMIT] = short_mostly(random, bound);
+    }
+}
+
+/// Up to this bound mostly, else about as long as may be.
+fn short_mostly(random: &mut Random, bound: u64) -> u64 {
+    if random.percent(3) {
+        LONGEST - random.below(2)
+    } else {
+        1 + random.below(bound)
     }
 }
 
@@ -37,13 +52,17 @@ pub fn first_tid(random: &mut Random) -> u64 {
     }
 }
 
-/// Puts one word out of range or just in range, or changes the number of words.
+/// Puts one word out of range or just in range, or modes and waiting limit, or changes the number of words.
 pub fn spoil(random: &mut Random, words: &mut Vec<u64>, first_tid: &mut u64) {
     let place = random.place(SETTINGS);
-    match random.below(5) {
+    match random.below(6) {
         0 => words.truncate(place),
         1 => words.push(0),
-        2 => *first_tid = random.of(&[32_767, 32_768, 65_536, u64::MAX]),
+        2 => {
+            words[MODES] = random.of(&[0, 1, 1, 1, 2, 3, 4, 8, 256, 257, u64::MAX]);
+            words[WAITING_LIMIT] = random.of(&[0, 1, LONGEST, LONGEST + 1, 1 << 32, (1 << 32) + 1, u64::MAX]);
+        }
+        3 => *first_tid = random.of(&[32_767, 32_768, 65_536, u64::MAX]),
         _ => words[place] = random.of(&[0, 1, 8, 9, LONGEST, LONGEST + 1, 1 << 32, u64::MAX]),
     }
 }

@@ -25,10 +25,11 @@ pub fn report(seed: u64, found: &Found) -> String {
 fn tell_table(table: &[u8], told: &mut String) {
     let places = table.len().saturating_sub(layout::HEADER) / layout::RECORD;
     let view = View::new(table, places);
-    let header = [layout::CLOCK, layout::GEN_TID, layout::RCR_MAX, layout::AEC_MAX, layout::TIDNEW_DUE];
-    let [clock, gen_tid, rcr_max, aec_max, due] = header.map(|field| view.get(field));
+    let [clock, gen_tid, due] = [layout::CLOCK, layout::GEN_TID, layout::TIDNEW_DUE].map(|field| view.get(field));
     let _ = write!(told, "  table before: clock {clock}, GenTID {gen_tid}, TIDnew due {due}, ");
-    let _ = writeln!(told, "RCR_MAX {rcr_max}, AEC_MAX {aec_max}");
+    let [rcr_max, aec_max] = [layout::RCR_MAX, layout::AEC_MAX].map(|field| view.get(field));
+    let [modes, limit] = [layout::MODES, layout::WAITING_LIMIT].map(|field| view.get(field));
+    let _ = writeln!(told, "RCR_MAX {rcr_max}, AEC_MAX {aec_max}, modes {modes}, waiting limit {limit}");
     let intervals: Vec<u64> = (0..layout::INTERVALS).map(|step| view.get(layout::INTERVAL.moved(4 * step))).collect();
     let _ = writeln!(told, "  A, W, R of class 1, R of class 2: {intervals:?}");
     for peer in 0..layout::PEERS as u64 {
@@ -55,6 +56,7 @@ fn tell_record(view: View, place: usize, told: &mut String) {
         ("exit length", layout::EXIT_LENGTH),
         ("deadline", layout::DEADLINE),
         ("message length", layout::MESSAGE),
+        ("waiting limit in force", layout::LIMIT),
     ];
     let _ = write!(told, "  record {place}:");
     for (name, field) in fields {

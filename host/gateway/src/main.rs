@@ -31,7 +31,8 @@ There are numbers for 256 readers (addresses) in one run; a further one is refus
 
 Switches, with their defaults:
   --listen ADDRESS     address and port; port 0 takes a free one (127.0.0.1:9201)
-  --patience MS        how long a transaction may wait where the protocol has no timer, 1 to 86400000 (30000)
+  --patience MS        the engine's waiting limit, 1 to 86400000: so long may a transaction wait where the protocol has no timer,
+                       for a TID that is verified or, after a hold-on, for a user; then the engine ends it (30000)
   --quiet              no line for an event";
 
 const HELP_END: &str = "  --help               this text
@@ -63,7 +64,7 @@ fn prepare(given: &Given) -> Result<Gateway, String> {
     let [file] = given.all_names(["RESULTS.csv"])?;
     let book = Book::read(file)?;
     let samplers = book.len();
-    let modem = common.modem(Desk::new(common.table()?, book, patience), Side::Network);
+    let modem = common.modem(Desk::new(common.table(patience)?, book), Side::Network);
     let post = Post::bind(address, common.line())?;
     interrupt::watch();
     say::out(&format!("gateway: listening on {} with {samplers} samplers", post.local()?));

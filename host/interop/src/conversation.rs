@@ -9,7 +9,8 @@ use std::time::Duration;
 use wtp::{codec, Name, Refused, Role, Settings, Shown, Table, Taken};
 use wtpdump::{Dump, Length};
 
-const SETTINGS: Settings = Settings { rcr_max: 4, aec_max: 4, a: 2_000, w: 2_000, r_class_1: [4_000; 9], r_class_2: [4_000; 9] };
+const SETTINGS: Settings =
+    Settings { rcr_max: 4, aec_max: 4, a: 2_000, w: 2_000, r_class_1: [4_000; 9], r_class_2: [4_000; 9], waiting_limit: None };
 
 /// A PDU on the air.
 #[derive(Debug, Clone, PartialEq, Eq)]

@@ -3,9 +3,10 @@
 use wtp::{Name, Refused, Role, Settings, Table, Taken};
 
 const PEER: u16 = 3;
-/// Longer than the intervals of retransmission and acknowledgement, shorter than that of WAIT TIMEOUT.
+/// Longer than the intervals of retransmission and acknowledgement and than the waiting limit, shorter than that of WAIT TIMEOUT.
 const STEP: u64 = 1_000;
-const SETTINGS: Settings = Settings { rcr_max: 4, aec_max: 1, a: 100, w: 1_000_000, r_class_1: [100; 9], r_class_2: [100; 9] };
+const SETTINGS: Settings =
+    Settings { rcr_max: 4, aec_max: 1, a: 100, w: 1_000_000, r_class_1: [100; 9], r_class_2: [100; 9], waiting_limit: Some(100) };
 
 /// A PDU that was sent, or why none was.
 pub type Step = Result<Vec<u8>, String>;

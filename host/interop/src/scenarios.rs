@@ -157,7 +157,12 @@ impl List {
         let mut pair = self.pair()?;
         pair.invoked(1, true)?;
         pair.timer_silently(Responder)?;
-        self.note(0x20, "Abort NORESPONSE of the responder", pair.timer(Responder)).map(|_| ())
+        self.note(0x20, "Abort NORESPONSE of the responder", pair.timer(Responder))?;
+
+        let mut pair = self.pair()?;
+        pair.invoked(2, false)?;
+        pair.timer(Responder)?;
+        self.note(0x20, "Abort NORESPONSE of the responder at its waiting limit", pair.timer(Responder)).map(|_| ())
     }
 
     fn aborts_without_a_record(&mut self) -> Result<(), String> {

@@ -3,7 +3,6 @@
 pub const CELL: usize = 1024;
 pub const HEADER: usize = 624;
 pub const RECORD: usize = 176;
-pub const SPARE: usize = 92;
 pub const CACHE: usize = 112;
 pub const LAST_TIME: u64 = 1_000_000_000_000;
 pub const LONGEST: u64 = 86_400_000;
@@ -32,8 +31,12 @@ pub const AEC_MAX: Field = field(11, 1, 0, 8);
 /// A, W and the 18 R are fields like this one after the other.
 pub const INTERVAL: Field = field(12, 4, 1, LONGEST);
 pub const INTERVALS: usize = 20;
-/// Spare octets lie before it from `SPARE` on, and after it.
+/// It is 0 where the modes are 0, and not where they are 1.
+pub const WAITING_LIMIT: Field = field(92, 4, 0, LONGEST);
+pub const MODES: Field = field(96, 1, 0, 1);
 pub const TIDNEW_DUE: Field = field(97, 1, 0, 1);
+/// Spare octets of the header lie from here to the cached TIDs.
+pub const SPARE: usize = 98;
 /// The first of the cached TIDs.
 pub const CACHED: Field = field(CACHE, 2, 0, 32_768);
 
@@ -48,8 +51,10 @@ pub const RESPONDER_FLAGS: u64 = 15;
 pub const EXIT_LENGTH: Field = field(7, 1, 0, 128);
 pub const DEADLINE: Field = field(8, 8, 0, LAST_TIME + LONGEST);
 pub const MESSAGE: Field = field(16, 4, 0, 1024);
+/// The waiting limit in force.
+pub const LIMIT: Field = field(20, 4, 0, LONGEST);
 /// Spare octets of a record lie from here to its exit information.
-pub const RECORD_SPARE: usize = 20;
+pub const RECORD_SPARE: usize = 24;
 pub const EXIT: usize = 48;
 
 pub fn table_bytes(records: usize) -> usize {
@@ -97,8 +102,8 @@ mod tests {
     }
 
     #[test]
-    fn the_intervals_end_where_the_spare_octets_begin() {
-        assert_eq!(INTERVAL.moved(4 * INTERVALS).at, SPARE);
+    fn the_intervals_end_where_the_waiting_limit_begins() {
+        assert_eq!(INTERVAL.moved(4 * INTERVALS).at, WAITING_LIMIT.at);
         assert_eq!(CACHED.moved(2 * PEERS).at, HEADER);
     }
 }

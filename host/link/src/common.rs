@@ -65,7 +65,8 @@ impl Common {
         self.interval.saturating_mul(self.retries.saturating_add(1))
     }
 
-    pub fn table(&self) -> Result<Table, String> {
+    /// A fresh table that ends its waits without a timer after so long.
+    pub fn table(&self, waiting_limit: u64) -> Result<Table, String> {
         let rows = [self.interval; 9];
         let settings = Settings {
             rcr_max: self.retries,
@@ -74,6 +75,7 @@ impl Common {
             w: self.last_repeat(),
             r_class_1: rows,
             r_class_2: rows,
+            waiting_limit: Some(waiting_limit),
         };
         Table::fresh(self.records, &settings, self.first_tid).map_err(|why| format!("the settings were refused: {why}"))
     }
@@ -105,15 +107,15 @@ mod tests {
     #[test]
     fn the_library_takes_the_settings_at_either_end_of_their_range() {
         let least = common(&["--records", "1", "--retries", "0", "--interval", "1", "--seed", "0"]).unwrap();
-        assert!(least.table().is_ok() && least.last_repeat() == 1);
+        assert!(least.table(1).is_ok() && least.last_repeat() == 1);
         let most = ["--records", "48", "--retries", "8", "--interval", "60000", "--seed", "18446744073709551615"];
-        assert!(common(&most).unwrap().table().is_ok());
-        assert!(common(&[]).unwrap().table().is_ok());
+        assert!(common(&most).unwrap().table(86_400_000).is_ok());
+        assert!(common(&[]).unwrap().table(30_000).is_ok());
     }
 
     #[test]
     fn the_first_request_has_the_first_tid() {
-        let mut table = common(&["--first-tid", "32767"]).unwrap().table().unwrap();
+        let mut table = common(&["--first-tid", "32767"]).unwrap().table(1).unwrap();
         let tids = [(); 2].map(|()| table.request(0, 0, 2, false, b"").unwrap().tid);
         assert_eq!(tids, [Some(32_767), Some(0)]);
     }

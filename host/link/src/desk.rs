@@ -2,33 +2,27 @@
 
 use crate::book::{Book, Entry};
 use crate::head::{self, Head};
-use crate::open::{Open, OpenList, Stage};
+use crate::open::{OpenList, Stage};
 use crate::payload::{escaped, Sampler};
 use crate::reason;
-use crate::step::{due, earliest, End, Packet, Step};
+use crate::step::{due, End, Packet, Step};
 use crate::tally::Tally;
-use wtp::{Name, Shown, Table, Taken};
+use wtp::{Name, Shown, Table};
 
 const CON: u8 = 0x80;
 
 pub struct Desk {
     table: Table,
     book: Book,
-    /// How long a transaction may wait where the engine has no timer, in milliseconds.
-    patience: u64,
     open: OpenList,
     tally: Tally,
 }
 
 impl End for Desk {
-    /// Fires timers and ends what waits without one for too long.
     fn tick(&mut self, now: u64) -> Step {
         let mut step = Step::default();
         for shown in step.fire(&mut self.table, now) {
             self.shown(now, shown, &mut step);
-        }
-        if let Some(since) = now.checked_sub(self.patience) {
-            self.end_overdue(now, since, reason::GAVE_UP, &mut step);
         }
         self.damage(&mut step);
         step
@@ -39,14 +33,14 @@ impl End for Desk {
     }
 
     fn next(&self) -> Option<u64> {
-        let overdue = self.open.oldest().map(|since| since.saturating_add(self.patience));
-        earliest(&[due(&self.table), overdue])
+        due(&self.table)
     }
 }
 
 impl Desk {
-    pub fn new(table: Table, book: Book, patience: u64) -> Desk {
-        Desk { table, book, patience, open: OpenList::default(), tally: Tally::default() }
+    /// The table's waiting limit ends what nobody goes on with: a TID that isn't verified, a user who never answers.
+    pub fn new(table: Table, book: Book) -> Desk {
+        Desk { table, book, open: OpenList::default(), tally: Tally::default() }
     }
 
     pub fn datagram(&mut self, now: u64, peer: u16, datagram: &[u8]) -> Step {
@@ -58,9 +52,9 @@ impl Desk {
                 continue;
             }
             let taken = self.table.receive(now, peer, pdu);
-            if let Ok(taken) = &taken {
-                self.follow_verification(now, peer, pdu, taken);
-            }
+            let sent = taken.as_ref().ok().and_then(|taken| Head::sent(peer, taken.sent.as_deref()?));
+            // The user isn't shown that a verification begins.
+            self.tally.verifications += u64::from(sent.map_or(false, |head| head.is_first_tidve()));
             for shown in step.take(peer, taken) {
                 self.shown(now, shown, &mut step);
             }
@@ -72,7 +66,10 @@ impl Desk {
     /// Aborts what its user hasn't answered, so that no reader is left waiting.
     pub fn interrupt(&mut self, now: u64) -> Step {
         let mut step = Step::default();
-        self.end_overdue(now, now, reason::STOPPED, &mut step);
+        for of in self.open.take_unanswered() {
+            self.abort(now, of, reason::STOPPED, &mut step);
+            step.say(format!("{}: aborted: {}", line_start(of), reason::words(reason::STOPPED)));
+        }
         step
     }
 
@@ -97,20 +94,6 @@ impl Desk {
             Shown::Result { .. } | Shown::EmptyResult { .. } => "a result, which was not asked for".into(),
         };
         step.say(format!("{}: {what}", line_start(of)));
-    }
-
-    /// The user isn't shown that a verification begins, nor that an Abort ends it.
-    fn follow_verification(&mut self, now: u64, peer: u16, pdu: &[u8], taken: &Taken) {
-        let received = Head::received(peer, pdu);
-        let sent = Head::sent(peer, taken.sent.as_deref().unwrap_or_default());
-        for aborted in [&received, &sent].into_iter().flatten().filter(|head| head.is_abort()) {
-            self.open.end(aborted.of);
-        }
-        if let Some(verified) = sent.filter(Head::is_tidve) {
-            let again = self.open.stage(verified.of) == Some(Stage::Verifying);
-            self.tally.verifications += u64::from(!again);
-            self.open.set(verified.of, now, Stage::Verifying);
-        }
     }
 
     /// Answers an Invoke as the book says; the line for the log is given back.
@@ -149,7 +132,7 @@ impl Desk {
             }
             Entry::Silent | Entry::Unheard => {
                 self.tally.unanswered += 1;
-                self.open.set(of, now, Stage::Unanswered);
+                self.open.set(of, Stage::Unanswered);
                 "not answered, as the book says".into()
             }
             Entry::Abort(octet) => {
@@ -163,33 +146,13 @@ impl Desk {
     fn result(&mut self, now: u64, of: Name, data: &[u8], damaged: bool, step: &mut Step) {
         let taken = self.table.result(now, of, data);
         step.take(of.peer, taken);
-        self.open.set(of, now, Stage::Answered { damaged });
+        self.open.set(of, Stage::Answered { damaged });
     }
 
     fn abort(&mut self, now: u64, of: Name, octet: u8, step: &mut Step) {
         let taken = self.table.abort(now, of, octet);
         step.take(of.peer, taken);
         self.open.end(of);
-    }
-
-    fn end_overdue(&mut self, now: u64, since: u64, octet: u8, step: &mut Step) {
-        for Open { of, stage, .. } in self.open.take_overdue(since) {
-            if stage == Stage::Verifying {
-                self.end_verification(now, of, step);
-            } else {
-                self.abort(now, of, octet, step);
-                step.say(format!("{}: aborted: {}", line_start(of), reason::words(octet)));
-            }
-        }
-    }
-
-    /// TIDOK WAIT has no timer and its user may not abort. The Abort that its reader would send frees the record; where
-    /// the reader is still there, its next Invoke is verified anew.
-    fn end_verification(&mut self, now: u64, of: Name, step: &mut Step) {
-        let [high, low] = of.tid.to_be_bytes();
-        let taken = self.table.receive(now, of.peer, &[0x20, high, low, 8]);
-        step.take(of.peer, taken);
-        step.say(format!("{}: its TID was not verified in time", line_start(of)));
     }
 
     /// Whether this is the Invoke for a sampler that the book calls unheard.

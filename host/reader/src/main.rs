@@ -74,7 +74,7 @@ fn prepare(given: &Given) -> Result<Reader, String> {
     let samplers = samplers::read(file)?;
     let manner = Manner { user_ack: !given.has("--no-user-ack"), patience, linger };
     let asked = samplers.iter().map(|scanned| scanned.sampler.clone()).collect();
-    let modem = common.modem(Round::new(common.table()?, asked, manner), Side::Ue);
+    let modem = common.modem(Round::new(common.table(patience)?, asked, manner), Side::Ue);
     let post = match given.text("--from")? {
         Some(own) => Post::between(post::address(own)?, address, common.line())?,
         None => Post::towards(address, common.line())?,

@@ -1,16 +1,18 @@
-//! A table in words: clock, GenTID, whether TIDnew is due, cached TIDs, live records.
+//! A table in words: clock, GenTID, whether TIDnew is due, waiting limit, cached TIDs, live records.
 
 use crate::changes::{records, state_name};
 use crate::octets::text;
 use kit::layout::{
-    AEC, CACHED, CLOCK, DEADLINE, EXIT, EXIT_LENGTH, FLAGS, GEN_TID, MESSAGE, PEER, PEERS, RCR, STATE, TID, TIDNEW_DUE,
+    AEC, CACHED, CLOCK, DEADLINE, EXIT, EXIT_LENGTH, FLAGS, GEN_TID, LIMIT, MESSAGE, PEER, PEERS, RCR, STATE, TID, TIDNEW_DUE,
+    WAITING_LIMIT,
 };
 
 const MARKS: [&str; 5] = [" user-ack", " HoldOn", " TIDok-sent", " hold-on-sent", " TIDnew"];
 
 pub fn look(table: &[u8]) -> String {
     let due = if TIDNEW_DUE.get(table) == 1 { ", TIDnew due" } else { "" };
-    let mut told = format!(": clock {}, next TID {}{due}", CLOCK.get(table), GEN_TID.get(table));
+    let limit = if_any(", waiting limit", WAITING_LIMIT.get(table));
+    let mut told = format!(": clock {}, next TID {}{due}{limit}", CLOCK.get(table), GEN_TID.get(table));
     for peer in 0..PEERS {
         if let Some(last) = CACHED.moved(2 * peer).get(table).checked_sub(1) {
             told += &format!(", last of {peer} is {last}");
@@ -24,8 +26,17 @@ fn told_record(place: usize, record: &[u8]) -> String {
     let get = |field: kit::layout::Field| field.get(record);
     let state = state_name(get(STATE));
     let counters = format!("{}/{} RCR {} AEC {}", get(PEER), get(TID), get(RCR), get(AEC));
-    let rest = format!("due {} length {}{}{}", get(DEADLINE), get(MESSAGE), marks(get(FLAGS)), exit(record));
-    format!("; record {place} {state} {counters} {rest}")
+    let due = format!("due {}{}", get(DEADLINE), if_any(" limit", get(LIMIT)));
+    let rest = format!("length {}{}{}", get(MESSAGE), marks(get(FLAGS)), exit(record));
+    format!("; record {place} {state} {counters} {due} {rest}")
+}
+
+/// The number with its name, and nothing where it is 0.
+fn if_any(name: &str, number: u64) -> String {
+    match number {
+        0 => String::new(),
+        _ => format!("{name} {number}"),
+    }
 }
 
 fn marks(flags: u64) -> String {

@@ -10,8 +10,9 @@ use wtp::ffi::{self, Lent};
 const RECORDS: usize = 2;
 
 /// Where the fields of docs/TABLE.md start, some of them taken together.
-const OF_HEADER: [usize; 9] = [0, 8, 10, 12, 20, layout::SPARE, layout::TIDNEW_DUE.at, layout::TIDNEW_DUE.at + 1, layout::CACHE];
-const OF_RECORD: [usize; 9] = [0, 1, 2, 4, 6, 8, 16, layout::RECORD_SPARE, layout::EXIT];
+const OF_HEADER: [usize; 10] =
+    [0, 8, 10, 12, 20, layout::WAITING_LIMIT.at, layout::MODES.at, layout::TIDNEW_DUE.at, layout::SPARE, layout::CACHE];
+const OF_RECORD: [usize; 10] = [0, 1, 2, 4, 6, 8, 16, layout::LIMIT.at, layout::RECORD_SPARE, layout::EXIT];
 
 /// A call that judges the table, and its number; it takes a time or it doesn't.
 type Judge = fn(Lent, u64) -> u64;
@@ -44,6 +45,14 @@ fn of_either_role(mut table: Vec<u8>) -> Vec<u8> {
     table
 }
 
+/// The shortest waiting limit, and in the first record the longest in force.
+fn with_waiting_limit(mut table: Vec<u8>) -> Vec<u8> {
+    layout::WAITING_LIMIT.set(&mut table, 1);
+    layout::MODES.set(&mut table, 1);
+    layout::LIMIT.of_record(0).set(&mut table, layout::LONGEST);
+    table
+}
+
 /// How many tables that differ from this one in this octet aren't well formed. The last time that there is lies below no
 /// clock in range, so that the others are accepted.
 fn refused(judge: Judge, table: &[u8], at: usize) -> usize {
@@ -72,10 +81,12 @@ fn all_told(judge: Judge) -> String {
     let free = fresh();
     let live = with_two_live(free.clone());
     let either = of_either_role(live.clone());
+    let limited = with_waiting_limit(either.clone());
     let tables = [
         ("a fresh table of two records", free),
         ("the same with both records live", live),
         ("an initiator whose Invoke carries TIDnew, and a responder", either),
+        ("the same with a waiting limit of 1, the first record with the longest in force", limited),
     ];
     tables.iter().map(|(title, table)| format!("{title}\n{}", told(judge, table))).collect()
 }

@@ -20,6 +20,7 @@ fn result_wait(at: Transaction, class: Class, event: Event) -> Outcome {
         Event::Ack { tid_test: true, .. } => tidve(at, class),
         Event::Ack { tid_test: false, info, .. } => acknowledged(at, class, info),
         Event::Result { ttr, data, .. } => result(at, class, ttr, data),
+        Event::Timer if class == Class::Two && at.record.hold_on && at.is_limited() => at.end_unheard(Row::IResultWaitLimit),
         Event::Timer => send_again(at, class),
         Event::SegmentedOrNack => Ok(Row::IResultWaitSegmented),
         Event::Abort { kind, reason } => at.aborted_by_peer(kind, reason, Row::IResultWaitAbort),
@@ -51,7 +52,7 @@ fn acknowledged(mut at: Transaction, class: Class, info: Data) -> Outcome {
         return at.end(Row::IResultWaitAckClass1);
     }
     at.record.hold_on = true;
-    at.record.deadline = None;
+    at.start_no_timer();
     at.go_on(Row::IResultWaitFirstAck)
 }
 

@@ -79,19 +79,18 @@ fn test_tid(engine: &mut Engine, name: Name, class: Class, first: &First) -> Row
     };
     let state = State::Responder(ResponderState::TidokWait(class));
     let record = Record::new(state, name.peer, name.tid, first.invoke.user_ack);
-    let row = match (engine.table.last_tid(name.peer), first.invoke.tidnew) {
-        (Some(last), false) if is_valid(name.tid, last) => {
-            return valid(Transaction { engine, place, record }, class, first);
-        }
+    let at = Transaction { engine, place, record };
+    let row = match (at.engine.table.last_tid(name.peer), first.invoke.tidnew) {
+        (Some(last), false) if is_valid(name.tid, last) => return valid(at, class, first),
         (Some(_), false) => Row::InvokeVerified,
         (None, false) => Row::InvokeNothingCached,
         (Some(_), true) => Row::InvokeRestarted,
         (None, true) => Row::InvokeRestartedNothingCached,
     };
     if first.invoke.tidnew {
-        engine.table.drop_last_tid(name.peer);
+        at.engine.table.drop_last_tid(name.peer);
     }
-    verify(engine, place, record, first);
+    verify(at, first);
     row
 }
 
@@ -110,10 +109,11 @@ fn valid(mut at: Transaction, class: Class, first: &First) -> Row {
 }
 
 /// Keeps the Invoke until the initiator has confirmed its TID.
-fn verify(engine: &mut Engine, place: usize, mut record: Record, first: &First) {
+fn verify(mut at: Transaction, first: &First) {
     let data = &first.octets[first.data.start..first.data.end()];
-    record.message_length = data.len() as u32;
-    engine.table.put(place, &record);
-    engine.keep(place, data);
-    engine.send(&sending::ack(true, false, record.name()));
+    at.record.message_length = data.len() as u32;
+    at.start_no_timer();
+    at.engine.table.put(at.place, &at.record);
+    at.engine.keep(at.place, data);
+    at.send_tid_test(false);
 }

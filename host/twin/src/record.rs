@@ -126,6 +126,8 @@ pub struct Record {
     pub exit_length: u8,
     pub deadline: Option<u64>,
     pub message_length: u32,
+    /// The waiting limit that is the deadline; 0 where it is an ordinary timer's, or where there is none.
+    pub limit: u32,
 }
 
 impl Record {
@@ -144,6 +146,7 @@ impl Record {
             exit_length: 0,
             deadline: None,
             message_length: 0,
+            limit: 0,
         }
     }
 
@@ -169,6 +172,7 @@ impl Record {
             exit_length: octets[7],
             deadline: (deadline != 0).then_some(deadline),
             message_length: u32::from_le_bytes(array_at(octets, 16)),
+            limit: u32::from_le_bytes(array_at(octets, 20)),
         })
     }
 
@@ -187,6 +191,7 @@ impl Record {
         octets[7] = self.exit_length;
         put_at(octets, 8, &self.deadline.unwrap_or(0).to_le_bytes());
         put_at(octets, 16, &self.message_length.to_le_bytes());
+        put_at(octets, 20, &self.limit.to_le_bytes());
     }
 
     /// Whether a record decoded from these octets has all fields in range.
@@ -198,6 +203,7 @@ impl Record {
             && usize::from(self.exit_length) <= bounds::EXIT
             && self.deadline.unwrap_or(0) <= bounds::DEADLINE
             && self.message_length <= bounds::CELL as u32
-            && octets[20..EXIT] == [0; 28]
+            && self.limit <= bounds::INTERVAL
+            && octets[24..EXIT] == [0; 24]
     }
 }

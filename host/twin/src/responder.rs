@@ -5,7 +5,7 @@ use crate::bounds;
 use crate::event::Event;
 use crate::pdu::Part;
 use crate::record::{Class, ResponderState, State};
-use crate::sending;
+use crate::sending::{self, NORESPONSE};
 use crate::transaction::{Outcome, Transaction};
 use crate::Row;
 
@@ -29,6 +29,7 @@ fn tidok_wait(mut at: Transaction, class: Class, event: Event) -> Outcome {
         }
         Event::Invoke { rid: false } => Ok(Row::RTidokWaitInvoke),
         Event::SegmentedOrNack => Ok(Row::RTidokWaitSegmented),
+        Event::Timer if at.is_limited() => at.end(Row::RTidokWaitLimit),
         Event::Timer => Ok(Row::RTidokWaitTimer),
         Event::Abort { .. } => at.end(Row::RTidokWaitAbort),
         Event::Malformed => at.malformed_unshown(Row::RTidokWaitMalformed),
@@ -101,7 +102,7 @@ fn acknowledge(mut at: Transaction, exit: &[u8], row: Row) -> Outcome {
 fn hold_on(mut at: Transaction, row: Row) -> Outcome {
     at.send_plain_ack(false);
     at.record.hold_on_sent = true;
-    at.record.deadline = None;
+    at.start_no_timer();
     at.record.state = State::Responder(ResponderState::ResultWait);
     at.go_on(row)
 }
@@ -119,6 +120,7 @@ fn give_result(mut at: Transaction, data: &[u8], row: Row) -> Outcome {
 fn result_wait(mut at: Transaction, event: Event) -> Outcome {
     match event {
         Event::UserResult { data } => give_result(at, data, Row::RResultWaitResult),
+        Event::Timer if at.record.hold_on_sent && at.is_limited() => at.give_up(NORESPONSE, Row::RResultWaitLimit),
         Event::Timer => hold_on(at, Row::RResultWaitTimer),
         Event::Invoke { rid: true } if at.record.hold_on_sent => {
             at.send_plain_ack(true);

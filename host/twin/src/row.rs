@@ -68,6 +68,7 @@ rows! {
     IResultWaitTimerInvoke "initiator RESULT WAIT: timer, RCR < RCR_MAX, Invoke again",
     IResultWaitTimerTidok "initiator RESULT WAIT: timer, RCR < RCR_MAX, TIDok again",
     IResultWaitTimerEnd "initiator RESULT WAIT: timer, RCR = RCR_MAX",
+    IResultWaitLimit "initiator RESULT WAIT: waiting limit, class 2, HoldOn",
     IResultWaitUserAnswer "initiator RESULT WAIT: user answer refused 9",
     IResultWaitUserResult "initiator RESULT WAIT: user result refused 9",
     IResultWaitUserAbort "initiator RESULT WAIT: user abort",
@@ -106,6 +107,7 @@ rows! {
     RTidokWaitMalformed "responder TIDOK WAIT: malformed",
     RTidokWaitSegmented "responder TIDOK WAIT: segmented or Nack",
     RTidokWaitTimer "responder TIDOK WAIT: timer, ignored",
+    RTidokWaitLimit "responder TIDOK WAIT: waiting limit",
     RTidokWaitUserAnswerExit "responder TIDOK WAIT: user answer with exit information, class 2, refused 4",
     RTidokWaitUserAnswer "responder TIDOK WAIT: user answer refused 9",
     RTidokWaitUserResult "responder TIDOK WAIT: user result refused 9",
@@ -130,6 +132,7 @@ rows! {
 
     RResultWaitResult "responder RESULT WAIT: user result",
     RResultWaitTimer "responder RESULT WAIT: timer, hold-on",
+    RResultWaitLimit "responder RESULT WAIT: waiting limit, hold-on sent, Abort 8",
     RResultWaitInvokeAgain "responder RESULT WAIT: Invoke with RID, hold-on again",
     RResultWaitInvokeNoHoldOn "responder RESULT WAIT: Invoke with RID, no hold-on sent",
     RResultWaitInvoke "responder RESULT WAIT: Invoke, RID clear",

@@ -11,9 +11,10 @@ pub const RCR_MAX: usize = 10;
 pub const AEC_MAX: usize = 11;
 /// A, W, nine R of class 1 and nine R of class 2, four octets each.
 pub const INTERVALS: usize = 12;
-/// Spare octets lie on either side of `TIDNEW_DUE`.
-const SPARE: usize = 92;
+pub const WAITING_LIMIT: usize = 92;
+pub const MODES: usize = 96;
 pub const TIDNEW_DUE: usize = 97;
+const SPARE: usize = 98;
 const CACHE: usize = 112;
 
 /// Over octets that may be changed, or over octets that may only be read.
@@ -27,6 +28,15 @@ pub fn records_in(octets: usize) -> Option<usize> {
     (records % OCTETS == 0 && (1..=bounds::RECORDS).contains(&(records / OCTETS))).then_some(records / OCTETS)
 }
 
+/// Whether modes and waiting limit go together: no mode and no limit, or mode 1 and a limit.
+pub fn is_waiting_limit(modes: u64, limit: u64) -> bool {
+    match modes {
+        0 => limit == 0,
+        1 => (1..=bounds::INTERVAL.into()).contains(&limit),
+        _ => false,
+    }
+}
+
 impl<O: Deref<Target = [u8]>> Table<O> {
     /// The table, if it has a right size and is well formed.
     pub fn open(octets: O) -> Option<Table<O>> {
@@ -36,16 +46,17 @@ impl<O: Deref<Target = [u8]>> Table<O> {
     }
 
     fn header_is_sound(&self) -> bool {
-        let mut intervals = self.octets[INTERVALS..SPARE].chunks_exact(4).map(|four| u32::from_le_bytes(array_at(four, 0)));
+        let mut intervals =
+            self.octets[INTERVALS..WAITING_LIMIT].chunks_exact(4).map(|four| u32::from_le_bytes(array_at(four, 0)));
         let cached = self.octets[CACHE..HEADER].chunks_exact(2).map(|two| u16::from_le_bytes(array_at(two, 0)));
         self.clock() <= bounds::TIME
             && self.gen_tid() <= bounds::TID
             && self.rcr_max() <= bounds::COUNTER
             && self.aec_max() <= bounds::COUNTER
             && intervals.all(|interval| (1..=bounds::INTERVAL).contains(&interval))
-            && self.octets[SPARE..TIDNEW_DUE] == [0; TIDNEW_DUE - SPARE]
+            && is_waiting_limit(self.octets[MODES].into(), self.waiting_limit())
             && self.octets[TIDNEW_DUE] <= 1
-            && self.octets[TIDNEW_DUE + 1..CACHE] == [0; CACHE - TIDNEW_DUE - 1]
+            && self.octets[SPARE..CACHE] == [0; CACHE - SPARE]
             && cached.fold(0, u16::max) <= bounds::TID + 1
     }
 
@@ -139,6 +150,11 @@ impl<O: Deref<Target = [u8]>> Table<O> {
             Class::Two => 11,
         };
         self.interval(row + usize::from(rcr))
+    }
+
+    /// How long a wait without a timer may last; 0 where the mode is off.
+    pub fn waiting_limit(&self) -> u64 {
+        u32::from_le_bytes(array_at(&self.octets, WAITING_LIMIT)).into()
     }
 
     pub fn last_tid(&self, peer: u8) -> Option<u16> {

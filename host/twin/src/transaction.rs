@@ -43,8 +43,22 @@ impl Transaction<'_, '_> {
         self.engine.show(self.record.name(), indication);
     }
 
-    pub fn start_timer(&mut self, interval: u64) {
+    /// An ordinary timer: no waiting limit is in force.
+    fn start_timer(&mut self, interval: u64) {
         self.record.deadline = Some(self.engine.now + interval);
+        self.record.limit = 0;
+    }
+
+    /// No timer: a wait that has none, or, with the mode on, one that the waiting limit ends.
+    pub fn start_no_timer(&mut self) {
+        let limit = self.engine.table.waiting_limit();
+        self.record.deadline = (limit != 0).then_some(self.engine.now + limit);
+        self.record.limit = limit as u32;
+    }
+
+    /// Whether the deadline is a waiting limit, in a wait that has one.
+    pub fn is_limited(&self) -> bool {
+        self.record.limit != 0
     }
 
     pub fn start_timer_a(&mut self) {

@@ -11,7 +11,15 @@ pub struct Settings {
     pub w: u64,
     pub r_class_1: [u64; 9],
     pub r_class_2: [u64; 9],
+    /// How long a wait for which the protocol has no timer may last before it ends by itself; `None`: for ever.
+    pub waiting_limit: Option<u64>,
 }
+
+/// Where the modes and the waiting limit stand.
+const MODES: usize = 22;
+const WAITING_LIMIT: usize = 23;
+/// The mode in which waits without a timer have a limit.
+const LIMITED: u64 = 1;
 
 impl Settings {
     /// The words in the library's order; those without a meaning are 0.
@@ -21,6 +29,10 @@ impl Settings {
         let mut words = [0; ffi::SETTINGS];
         for (word, value) in words.iter_mut().zip(single.iter().chain(rows)) {
             *word = *value;
+        }
+        if let Some(limit) = self.waiting_limit {
+            words[MODES] = LIMITED;
+            words[WAITING_LIMIT] = limit;
         }
         words
     }
@@ -34,8 +46,11 @@ mod tests {
     fn the_words_are_in_the_order_of_the_header() {
         let r_class_1 = [5, 6, 7, 8, 9, 10, 11, 12, 13];
         let r_class_2 = [14, 15, 16, 17, 18, 19, 20, 21, 22];
-        let words = Settings { rcr_max: 1, aec_max: 2, a: 3, w: 4, r_class_1, r_class_2 }.words();
-        assert!(words[..22].iter().copied().eq(1..=22));
-        assert_eq!(words[22..], [0; 10]);
+        let settings = Settings { rcr_max: 1, aec_max: 2, a: 3, w: 4, r_class_1, r_class_2, waiting_limit: None };
+        assert!(settings.words()[..22].iter().copied().eq(1..=22));
+        assert_eq!(settings.words()[22..], [0; 10]);
+        let limited = Settings { waiting_limit: Some(5_000), ..settings };
+        assert_eq!(limited.words()[..22], settings.words()[..22]);
+        assert_eq!(limited.words()[22..], [1, 5_000, 0, 0, 0, 0, 0, 0, 0, 0]);
     }
 }

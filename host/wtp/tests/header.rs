@@ -45,6 +45,14 @@ fn the_sizes_are_those_of_the_header() {
 }
 
 #[test]
+fn the_words_of_settings_are_where_the_wrapper_puts_them() {
+    let singles = ["WTP_RCR_MAX", "WTP_AEC_MAX", "WTP_A", "WTP_W", "WTP_R_CLASS_1"];
+    assert!(singles.iter().map(|name| value(name)).eq(0..5));
+    assert_eq!(["WTP_R_CLASS_2", "WTP_MODES", "WTP_WAITING_LIMIT"].map(value), [13, 22, 23]);
+    assert_eq!(value("WTP_MODE_WAITING_LIMIT"), 1);
+}
+
+#[test]
 fn the_words_of_a_deadline_are_in_the_order_in_which_the_wrapper_reads_them() {
     let words = ["WTP_DUE_ANY", "WTP_DUE_AT", "WTP_DUE_ROLE", "WTP_DUE_PEER", "WTP_DUE_TID"];
     assert!(words.iter().map(|name| value(name)).eq(0..ffi::DUE));

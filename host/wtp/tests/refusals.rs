@@ -151,9 +151,13 @@ fn number_9_not_due() {
 
 #[test]
 fn number_10_settings() {
-    for settings in [Settings { rcr_max: 9, ..SETTINGS }, Settings { w: 0, ..SETTINGS }, Settings { a: 86_400_001, ..SETTINGS }] {
-        assert_eq!(Table::fresh(1, &settings, 5).err(), Some(Refused::WrongSetting));
+    let limited = |limit| Settings { waiting_limit: Some(limit), ..SETTINGS };
+    let wrong =
+        [Settings { rcr_max: 9, ..SETTINGS }, Settings { w: 0, ..SETTINGS }, Settings { a: 86_400_001, ..SETTINGS }, limited(0)];
+    for settings in wrong.iter().chain(&[limited(86_400_001), limited(u64::MAX)]) {
+        assert_eq!(Table::fresh(1, settings, 5).err(), Some(Refused::WrongSetting), "{settings:?}");
     }
+    assert!([1, 86_400_000].iter().all(|limit| Table::fresh(1, &limited(*limit), 5).is_ok()));
     assert_eq!(Table::fresh(1, &SETTINGS, 32_768).err(), Some(Refused::WrongSetting));
 }
 

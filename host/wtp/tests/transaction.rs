@@ -2,8 +2,8 @@
 
 mod common;
 
-use common::{initiator, responder, table, PEER};
-use wtp::{Abort, Deadline, NonEmpty, Reason, Shown, Table, Taken};
+use common::{initiator, responder, table, PEER, SETTINGS};
+use wtp::{Abort, Deadline, NonEmpty, Reason, Settings, Shown, Table, Taken};
 
 /// A reader, which requests, a gateway, which answers, and their common clock.
 struct Link {
@@ -202,6 +202,22 @@ fn a_due_record_that_is_not_the_earliest_may_be_fired() {
     assert_eq!(reader.fire(5_000, initiator(5)).unwrap().fired, Some(initiator(5)));
     assert_eq!(reader.deadline(), Ok(Some(Deadline { at: 4_000, of: initiator(6) })), "in the past, and still there");
     assert_eq!(reader.timer(5_000).unwrap().fired, Some(initiator(6)));
+}
+
+#[test]
+fn a_wait_without_a_timer_ends_with_the_waiting_limit() {
+    let limited = Settings { waiting_limit: Some(60_000), ..SETTINGS };
+    let mut gateway = Table::fresh(1, &limited, 5).unwrap();
+    gateway.receive(0, PEER, &[0x0E, 0x00, 0x05, 0x02]).unwrap();
+    assert_eq!(gateway.deadline(), Ok(Some(Deadline { at: 60_000, of: responder(5) })), "it is verified");
+    let nothing = Taken { sent: None, shown: vec![], tid: None, fired: Some(responder(5)) };
+    assert_eq!(gateway.fire(60_000, responder(5)), Ok(nothing.clone()));
+    assert_eq!(gateway.deadline(), Ok(None));
+    let mut reader = Table::fresh(1, &limited, 5).unwrap();
+    reader.request(0, PEER, 2, false, b"").unwrap();
+    assert_eq!(reader.receive(10, PEER, &[0x18, 0x80, 0x05]).unwrap().shown, [confirmed(5)], "it is held on");
+    let abort = Shown::Abort { of: initiator(5), by: Abort::Provider(Reason::NoResponse) };
+    assert_eq!(reader.timer(60_010), Ok(Taken { shown: vec![abort], fired: Some(initiator(5)), ..nothing }));
 }
 
 #[test]

@@ -1,7 +1,7 @@
 //! A reader and a gateway behind modems that speak RDS, on a fake clock: the same outcomes on a bad line, ports that are reserved and
 //! released, and no call of WTP for a frame that is malformed or not for us.
 
-use crate::world::{sampler, table, value, INTERVAL, MANNER, NO_FAULTS, PATIENCE};
+use crate::world::{gateway_table, sampler, table, value, INTERVAL, MANNER, NO_FAULTS, PATIENCE};
 use kit::Random;
 use link::book::{Book, Entry};
 use link::desk::Desk;
@@ -52,7 +52,7 @@ impl Air {
         let mut book = Book::default();
         entries.iter().enumerate().for_each(|(number, entry)| assert!(book.enter(sampler(number), entry.clone())));
         let round = Round::new(table(8), (0..entries.len()).map(sampler).collect(), MANNER);
-        let desk = Desk::new(table(8), book, 2 * PATIENCE);
+        let desk = Desk::new(gateway_table(8), book);
         Air {
             reader: Modem::rds(Counted { end: round, heard: 0 }, Side::Ue, REPEATS),
             gateway: Modem::rds(Counted { end: desk, heard: 0 }, Side::Network, REPEATS),

@@ -115,45 +115,71 @@ fn invoke(tid: u8) -> Vec<u8> {
 fn verifications_that_nobody_ends_do_not_fill_the_table_for_ever() {
     let mut book = Book::default();
     book.enter(Sampler::of("1").unwrap(), Entry::Empty);
-    let mut desk = Desk::new(table(2), book, PATIENCE);
+    let mut desk = Desk::new(table(2), book);
     for tid in 1..=2 {
         assert_eq!(desk.datagram(0, 7, &invoke(tid)).send[0].octets, [0x1C, 0x80, tid]);
     }
     assert!(desk.datagram(1, 8, &invoke(3)).send.is_empty(), "the table is full");
-    assert!(desk.tick(PATIENCE - 1).log.is_empty());
-    assert_eq!(desk.tick(PATIENCE).log.len(), 2);
+    desk.tick(PATIENCE - 1);
+    assert!(desk.datagram(PATIENCE - 1, 8, &invoke(3)).send.is_empty(), "it still is");
+    let step = desk.tick(PATIENCE);
+    assert!(step.send.is_empty() && step.log.is_empty(), "they end silently");
     assert_eq!(desk.datagram(PATIENCE + 1, 8, &invoke(3)).send[0].octets, [0x1C, 0x80, 3]);
     let shown = desk.datagram(PATIENCE + 2, 8, &[0x1C, 0, 3]);
     assert_eq!(shown.send[0].octets, [0x16, 0x80, 3]);
 }
 
 #[test]
-fn a_user_who_never_answers_after_a_hold_on_ends_in_an_abort() {
-    let mut book = Book::default();
-    book.enter(Sampler::of("1").unwrap(), Entry::Silent);
-    let mut desk = Desk::new(table(1), book, PATIENCE);
-    desk.datagram(0, 7, &invoke(1));
-    assert!(desk.datagram(0, 7, &[0x1C, 0, 1]).send.is_empty());
-    assert_eq!(desk.tick(INTERVAL).send, [Packet { peer: 7, octets: vec![0x18, 0x80, 1] }]);
-    assert!(desk.tick(PATIENCE - 1).send.is_empty());
-    assert_eq!(desk.tick(PATIENCE).send, [Packet { peer: 7, octets: vec![0x21, 0x80, 1, 13] }]);
+fn an_invoke_that_comes_to_a_reader_does_not_keep_it_from_asking_for_ever() {
+    let mut round = Round::new(table(1), vec![Sampler::of("1").unwrap()], MANNER);
+    assert_eq!(round.datagram(0, &invoke(1)).send[0].octets, [0x1C, 0x80, 1]);
+    assert!(round.tick(0).send.is_empty(), "its one record is taken");
+    assert_eq!(round.next(), Some(PATIENCE));
+    assert_eq!(round.tick(PATIENCE).send[0].octets[..4], [0x0E, 0x7F, 0xF8, 0x32]);
 }
 
 #[test]
-fn a_verification_that_its_reader_ends_is_forgotten() {
-    let mut desk = Desk::new(table(1), Book::default(), PATIENCE);
+fn a_user_who_never_answers_after_a_hold_on_ends_in_an_abort() {
+    let mut book = Book::default();
+    book.enter(Sampler::of("1").unwrap(), Entry::Silent);
+    let mut desk = Desk::new(table(1), book);
+    desk.datagram(0, 7, &invoke(1));
+    assert!(desk.datagram(0, 7, &[0x1C, 0, 1]).send.is_empty());
+    assert_eq!(desk.tick(INTERVAL).send, [Packet { peer: 7, octets: vec![0x18, 0x80, 1] }]);
+    assert!(desk.tick(INTERVAL + PATIENCE - 1).send.is_empty());
+    let step = desk.tick(INTERVAL + PATIENCE);
+    assert_eq!(step.send, [Packet { peer: 7, octets: vec![0x20, 0x80, 1, 8] }]);
+    assert_eq!(step.log, ["peer 7, TID 1: aborted by the provider: no response"]);
+    assert!(desk.interrupt(INTERVAL + PATIENCE).send.is_empty(), "the user has nothing to answer any more");
+}
+
+#[test]
+fn a_gateway_that_is_stopped_aborts_what_its_user_was_shown_and_nothing_else() {
+    let mut book = Book::default();
+    book.enter(Sampler::of("1").unwrap(), Entry::Silent);
+    let mut desk = Desk::new(table(2), book);
+    desk.datagram(0, 7, &invoke(1));
+    desk.datagram(0, 7, &invoke(2));
+    desk.datagram(0, 7, &[0x1C, 0, 1]);
+    assert_eq!(desk.interrupt(1).send, [Packet { peer: 7, octets: vec![0x21, 0x80, 1, 12] }]);
+    assert_eq!(desk.tally().verifications, 2);
+}
+
+#[test]
+fn a_verification_that_its_reader_ends_leaves_nothing_to_wait_for() {
+    let mut desk = Desk::new(table(1), Book::default());
     for tid in 1..=3 {
         assert_eq!(desk.datagram(0, 7, &invoke(tid)).send[0].octets, [0x1C, 0x80, tid]);
         // An Abort of the reader, and a malformed PDU: either frees the record.
         let end = if tid == 2 { [0x18, 0, tid, 0] } else { [0x20, 0, tid, 2] };
         desk.datagram(0, 7, &end);
     }
-    assert!(desk.tick(PATIENCE).log.is_empty());
+    assert_eq!(desk.next(), None);
 }
 
 #[test]
 fn an_invoke_that_is_no_request_is_aborted_with_a_reason() {
-    let mut desk = Desk::new(table(4), Book::default(), PATIENCE);
+    let mut desk = Desk::new(table(4), Book::default());
     let cases: [(&[u8], u8, u8); 3] = [(b"hello", 2, 11), (b"sampler 1", 1, 11), (b"sampler 1", 2, 10)];
     for ((data, class, reason), tid) in cases.into_iter().zip(1..) {
         // The first TID is verified; from the second on the TIDok finds no record any more.

@@ -9,13 +9,13 @@ use link::step::End;
 fn desk_with(entry: Entry) -> Desk {
     let mut book = Book::default();
     book.enter(sampler(1), entry);
-    Desk::new(table(2), book, PATIENCE)
+    Desk::new(table(2), book)
 }
 
 /// Asks for the sampler 1 and has its TID verified, at this time.
 fn ask(desk: &mut Desk, now: u64) {
     desk.datagram(now, 7, &[&[0x0E, 0, 1, 2][..], b"sampler 00001"].concat());
-    assert_eq!(desk.next(), Some(now + PATIENCE), "while it is verified only patience ends it");
+    assert_eq!(desk.next(), Some(now + PATIENCE), "while it is verified only the waiting limit ends it");
     desk.datagram(now, 7, &[0x1C, 0, 1]);
 }
 
@@ -39,13 +39,13 @@ fn a_gateway_sleeps_until_a_result_is_sent_again_and_for_ever_after_its_confirma
 }
 
 #[test]
-fn a_gateway_whose_user_is_silent_sleeps_until_the_hold_on_and_then_until_its_patience_ends() {
+fn a_gateway_whose_user_is_silent_sleeps_until_the_hold_on_and_then_until_its_waiting_limit() {
     let mut desk = desk_with(Entry::Silent);
     ask(&mut desk, 10);
     assert_eq!(desk.next(), Some(10 + INTERVAL));
     assert_eq!(desk.tick(10 + INTERVAL).send[0].octets, [0x18, 0x80, 1]);
-    assert_eq!(desk.next(), Some(10 + PATIENCE));
-    assert_eq!(desk.tick(10 + PATIENCE).send[0].octets, [0x21, 0x80, 1, 13]);
+    assert_eq!(desk.next(), Some(10 + INTERVAL + PATIENCE));
+    assert_eq!(desk.tick(10 + INTERVAL + PATIENCE).send[0].octets, [0x20, 0x80, 1, 8]);
     assert_eq!(desk.next(), None);
 }
 

@@ -1,6 +1,6 @@
 //! The same conversation over real sockets on loopback.
 
-use crate::world::{sampler, table, value, MANNER, NO_FAULTS, PATIENCE};
+use crate::world::{sampler, table, value, MANNER, NO_FAULTS};
 use link::book::{Book, Entry};
 use link::desk::Desk;
 use link::line::Line;
@@ -32,7 +32,7 @@ fn a_round_over_loopback() {
     for (number, entry) in [value(0), Entry::Empty, Entry::Abort(1)].into_iter().enumerate() {
         book.enter(sampler(number), entry);
     }
-    let mut gateway = (Post::bind(free(), line()).unwrap(), Desk::new(table(4), book, PATIENCE));
+    let mut gateway = (Post::bind(free(), line()).unwrap(), Desk::new(table(4), book));
     let samplers = (0..4).map(sampler).collect();
     let post = Post::towards(gateway.0.local().unwrap(), line()).unwrap();
     let mut reader = (post, Round::new(table(4), samplers, MANNER));
@@ -76,7 +76,7 @@ fn a_closed_port_is_only_no_answer() {
 #[test]
 fn a_wait_ends_at_its_time_and_is_counted() {
     let mut post = Post::bind(free(), line()).unwrap();
-    let desk = &mut Desk::new(table(1), Book::default(), PATIENCE);
+    let desk = &mut Desk::new(table(1), Book::default());
     assert_eq!(desk.next(), None, "nothing is due, so that only a datagram or a signal wakes it");
     post.listen(desk, Some(0));
     assert!(post.summary().ends_with("; woke up once"), "{}", post.summary());

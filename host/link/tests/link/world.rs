@@ -30,13 +30,28 @@ pub struct World {
 }
 
 /// Its eighth request is the one that brings GenTID back to 0.
+const FIRST_TID: u16 = 32_760;
+
+/// Its waiting limit is `PATIENCE`.
 pub fn table(records: u64) -> Table {
-    table_from(32_760, records)
+    table_from(FIRST_TID, records, PATIENCE)
 }
 
-pub fn table_from(first_tid: u16, records: u64) -> Table {
-    let rows = [INTERVAL; 9];
-    let settings = Settings { rcr_max: RCR_MAX, aec_max: 2, a: INTERVAL, w: W, r_class_1: rows, r_class_2: rows };
+/// A gateway has more patience than its readers.
+pub fn gateway_table(records: u64) -> Table {
+    table_from(FIRST_TID, records, 2 * PATIENCE)
+}
+
+fn table_from(first_tid: u16, records: u64, limit: u64) -> Table {
+    let settings = Settings {
+        rcr_max: RCR_MAX,
+        aec_max: 2,
+        a: INTERVAL,
+        w: W,
+        r_class_1: [INTERVAL; 9],
+        r_class_2: [INTERVAL; 9],
+        waiting_limit: Some(limit),
+    };
     Table::fresh(records, &settings, first_tid).unwrap()
 }
 
@@ -57,8 +72,7 @@ impl World {
         }
         let mut world = World {
             round: Round::new(table(records), (0..entries.len()).map(sampler).collect(), manner),
-            // A gateway has more patience than its readers.
-            desk: Desk::new(table(records), book, 2 * PATIENCE),
+            desk: Desk::new(gateway_table(records), book),
             now: 0,
             to_desk: Line::new(to_desk, 1),
             to_round: Line::new(to_round, 2),
@@ -70,7 +84,7 @@ impl World {
     /// The reader is switched off and on again, and asks for all samplers anew, one after the other.
     pub fn restart(&mut self, first_tid: u16) {
         let samplers = (0..self.round.outcomes().len()).map(sampler).collect();
-        self.round = Round::new(table_from(first_tid, 1), samplers, MANNER);
+        self.round = Round::new(table_from(first_tid, 1, PATIENCE), samplers, MANNER);
         self.tick_round();
     }
 

@@ -9,6 +9,7 @@ mod tables;
 mod tidnew;
 mod timer;
 mod transactions;
+mod waiting;
 
 use crate::{Lent, Said};
 
@@ -36,6 +37,22 @@ pub fn settings(rcr_max: u64, aec_max: u64) -> [u64; 32] {
         words[13 + rcr] = interval_r(2, rcr as u64);
     }
     words
+}
+
+/// Settings of the examples of document 02's reading: A 100, W 200, R of class 1 50, 60, .., of class 2 150, 160, ..
+pub fn settings_of_the_reading() -> [u64; 32] {
+    let mut settings = settings(2, 1);
+    for rcr in 0..9 {
+        settings[4 + rcr] = 50 + 10 * rcr as u64;
+        settings[13 + rcr] = 150 + 10 * rcr as u64;
+    }
+    settings
+}
+
+/// The same settings with a waiting limit.
+pub fn limited(mut settings: [u64; 32], limit: u64) -> [u64; 32] {
+    settings[22..24].copy_from_slice(&[1, limit]);
+    settings
 }
 
 #[derive(Clone, Debug, PartialEq, Eq)]
@@ -72,14 +89,8 @@ impl End {
         End { table, store: vec![0x5A; 1024 * records as usize], out: vec![0xEE; 1030], answer: vec![7; 34] }
     }
 
-    /// Settings of the examples of document 02's reading: A 100, W 200, R of class 1 50, 60, .., of class 2 150, 160, ..
     pub fn of_the_reading(records: u64, first_tid: u64) -> End {
-        let mut settings = settings(2, 1);
-        for rcr in 0..9 {
-            settings[4 + rcr] = 50 + 10 * rcr as u64;
-            settings[13 + rcr] = 150 + 10 * rcr as u64;
-        }
-        End::with(records, first_tid, &settings)
+        End::with(records, first_tid, &settings_of_the_reading())
     }
 
     fn call(&mut self, act: impl FnOnce(Lent) -> Said) -> Said {

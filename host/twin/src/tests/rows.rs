@@ -8,10 +8,11 @@ use std::collections::BTreeSet;
 const PEER: u64 = 9;
 
 /// A table whose one record is in a state and due, under conditions: all flags clear or set, counters at 0 or at their
-/// maxima with exit information kept, nothing cached or the record's own TID.
+/// maxima with exit information kept, nothing cached or the record's own TID, no waiting limit in force or one.
 fn ends_in(state: u8) -> Vec<End> {
     let mut ends = Vec::new();
-    for (flags, counters, cached) in (0..8).map(|bits| (bits & 1 != 0, bits & 2 != 0, bits & 4 != 0)) {
+    for conditions in 0..16 {
+        let [flags, counters, cached, limited] = [1, 2, 4, 8].map(|bit| conditions & bit != 0);
         let mut end = End::new(1, 0);
         let record = end.record(0);
         record.copy_from_slice(&live(state));
@@ -25,6 +26,7 @@ fn ends_in(state: u8) -> Vec<End> {
             record[4..6].copy_from_slice(&[2, 1]);
             record[7] = 3;
         }
+        record[20] = limited.into();
         if cached {
             end.cache(PEER as usize, 5);
         }

@@ -35,6 +35,14 @@ fn a_fresh_table_is_made_of_any_old_contents() {
 }
 
 #[test]
+fn a_fresh_table_keeps_the_waiting_limit_and_its_mode() {
+    let mut end = End::with(1, 0, &limited(settings(2, 1), 86_400_000));
+    assert_eq!(end.table[92..98], [0x00, 0x5C, 0x26, 0x05, 1, 1]);
+    assert!(end.table[98..].iter().all(|octet| *octet == 0));
+    assert_eq!(end.timer(0).row, Row::TimerNoneDue);
+}
+
+#[test]
 fn fresh_judges_the_size_first_and_then_every_setting() {
     let good = settings(2, 1);
     let fresh = |octets: usize, settings: &[u64], first_tid: u64| {
@@ -47,7 +55,7 @@ fn fresh_judges_the_size_first_and_then_every_setting() {
     assert_eq!(fresh(800, &good, 32_768), 10);
     assert_eq!(fresh(800, &good[..31], 0), 10);
     assert_eq!(fresh(800, &[good.to_vec(), vec![0]].concat(), 0), 10);
-    for (word, most) in [(0, 8), (1, 8), (2, 86_400_000), (21, 86_400_000), (22, 0), (31, 0)] {
+    for (word, most) in [(0, 8), (1, 8), (2, 86_400_000), (21, 86_400_000), (22, 0), (23, 0), (24, 0), (31, 0)] {
         let with = |value: u64| {
             let mut settings = good;
             settings[word] = value;
@@ -58,6 +66,27 @@ fn fresh_judges_the_size_first_and_then_every_setting() {
     }
     for octets in [0, 623, 624, 799, 801, 9073, 9248] {
         assert_eq!(fresh(octets, &[], u64::MAX), 1);
+    }
+}
+
+#[test]
+fn fresh_takes_mode_1_with_a_limit_in_range_and_no_other() {
+    let fresh = |modes: u64, limit: u64| {
+        let mut settings = settings(2, 1);
+        settings[22..24].copy_from_slice(&[modes, limit]);
+        crate::fresh(&mut vec![7; 800], &settings, 0)
+    };
+    for (modes, limit) in [(0, 0), (1, 1), (1, 86_400_000)] {
+        assert_eq!(fresh(modes, limit), 0, "({modes}, {limit})");
+    }
+    for limit in [0, 86_400_001, 1 << 32, (1 << 32) + 5, u64::MAX] {
+        assert_eq!(fresh(1, limit), 10, "(1, {limit})");
+    }
+    for limit in [1, 86_400_000, u64::MAX] {
+        assert_eq!(fresh(0, limit), 10, "(0, {limit})");
+    }
+    for modes in [2, 3, 4, 5, 8, 15, 256, 257, u64::MAX] {
+        assert_eq!((fresh(modes, 0), fresh(modes, 5000)), (10, 10), "modes {modes}");
     }
 }
 
@@ -84,7 +113,7 @@ fn a_wrong_size_is_refused_with_1() {
 
 #[test]
 fn a_header_field_out_of_range_is_refused_with_1() {
-    let bad: [(usize, &[u8]); 17] = [
+    let bad: [(usize, &[u8]); 21] = [
         (0, &1_000_000_000_001_u64.to_le_bytes()),
         (8, &32_768_u16.to_le_bytes()),
         (10, &[9]),
@@ -95,7 +124,11 @@ fn a_header_field_out_of_range_is_refused_with_1() {
         (52, &[0; 4]),
         (88, &86_400_001_u32.to_le_bytes()),
         (92, &[1]),
+        (92, &86_400_000_u32.to_le_bytes()),
         (96, &[1]),
+        (96, &[2]),
+        (92, &[1, 0, 0, 0, 2]),
+        (92, &[1, 0x5C, 0x26, 0x05, 1]),
         (97, &[2]),
         (97, &[255]),
         (98, &[1]),
@@ -112,7 +145,7 @@ fn a_header_field_out_of_range_is_refused_with_1() {
 
 #[test]
 fn a_record_field_out_of_range_is_refused_with_1() {
-    let bad: [(usize, &[u8]); 11] = [
+    let bad: [(usize, &[u8]); 13] = [
         (0, &[12]),
         (0, &[0]),
         (2, &32_768_u16.to_le_bytes()),
@@ -122,7 +155,9 @@ fn a_record_field_out_of_range_is_refused_with_1() {
         (7, &[129]),
         (8, &1_000_086_400_001_u64.to_le_bytes()),
         (16, &1025_u32.to_le_bytes()),
-        (20, &[1]),
+        (20, &86_400_001_u32.to_le_bytes()),
+        (20, &[0xFF; 4]),
+        (24, &[1]),
         (47, &[1]),
     ];
     for (from, octets) in bad {
@@ -149,6 +184,7 @@ fn the_largest_fields_are_well_formed() {
         record[1..8].copy_from_slice(&[255, 255, 127, 2, 1, if state <= 4 { 31 } else { 15 }, 128]);
         record[8..16].copy_from_slice(&1_000_086_400_000_u64.to_le_bytes());
         record[16..20].copy_from_slice(&1024_u32.to_le_bytes());
+        record[20..24].copy_from_slice(&86_400_000_u32.to_le_bytes());
         end.cache(255, 32_767);
         assert_eq!(end.timer(1_000_000_000_000).row, Row::TimerNoneDue, "state {state}");
     }

@@ -6,7 +6,7 @@ use wtp::{Name, Role, Settings, Table};
 pub const PEER: u16 = 7;
 
 pub const SETTINGS: Settings =
-    Settings { rcr_max: 2, aec_max: 1, a: 2_000, w: 30_000, r_class_1: [4_000; 9], r_class_2: [5_000; 9] };
+    Settings { rcr_max: 2, aec_max: 1, a: 2_000, w: 30_000, r_class_1: [4_000; 9], r_class_2: [5_000; 9], waiting_limit: None };
 
 pub fn table(records: u64) -> Table {
     Table::fresh(records, &SETTINGS, 5).expect("these settings are in range")
