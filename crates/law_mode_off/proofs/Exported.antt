@@ -1,0 +1,67 @@
+-- With the mode off every exported function of the engine gives what the base's gives, in any session. Assumes nothing.
+use Prim.Native.Nat.{ℕ}
+use mathlib.Core.Path.{_≡_, refl, sym, ap, subst, _∙_}
+use mathlib.Core.Bool.{Bool, true, false}
+use mathlib.Core.List.{List, _∷_}
+use lib.ListN.{length}
+use lib.Dec.{ltb}
+use Rattle.base_lists.specs.Seq.{pick}
+use Rattle.table_layout.specs.Table.{settingsOf}
+use Rattle.table_layout.specs.declared.Settings.{Settings}
+use Rattle.table_fresh.specs.Fresh.{freshAnswer, tableAfterFresh}
+use Rattle.table_fresh.specs.declared.Fresh.{Fresh}
+use Rattle.table_fresh.specs.declared.Fresh.the-variants as Fresh
+use Rattle.call_plans.specs.Calls.{promised}
+use Rattle.law_history.specs.Trace.{Entry, Throughout}
+use Rattle.wtp.specs.Engine.{Called, handed, orSmall}
+use Rattle.law_exported.specs.Session.{Exported, Keeps, entryFor, historyWith, Session}
+use Rattle.law_mode_off.specs.BaseCalls.{baseCalledBy}
+use Rattle.law_mode_off.specs.ModeOff.{ModeOff, StaysOff}
+use Rattle.law_mode_off.proofs.Carried.{mode-off-call}
+use Rattle.law_mode_off.proofs.Kept.{call-settings, call-stays-off, fresh-off}
+
+-- a refused fresh-table call leaves the table
+fresh-refused : (a : Fresh) (t settings : List ℕ) (first : ℕ) → (a ≡ Fresh.Made → ⊥) → tableAfterFresh a t settings first ≡ t
+unfolding tableAfterFresh
+fresh-refused Fresh.Made t settings first unmade = absurd (unmade refl)
+fresh-refused (Fresh.Refused r) t settings first unmade = refl
+
+module _ (x : Exported) (k : Keeps x) where
+  -- MODE OFF, to C: the number, the words of the answer, and every lent octet
+  pub exported-as-before : ModeOff (x .lent .table) → x .seen ≡ baseCalledBy (x .call) (x .lent) (x .words)
+  exported-as-before m = k .keeps ∙ ap (orSmall (x .lent) (x .words)) (mode-off-call (x .call) (x .lent) m)
+
+  few : ltb (length (x .words)) 32 ≡ true → x .seen .table ≡ x .lent .table
+  unfolding orSmall
+  few e = ap (λ (c : Called). c .table) (k .keeps) ∙ rw e refl
+
+  enough : ltb (length (x .words)) 32 ≡ false → x .seen .table ≡ promised (x .call) (x .lent) .table
+  unfolding orSmall handed
+  enough e = ap (λ (c : Called). c .table) (k .keeps) ∙ rw e refl
+
+  -- a call of a session whose table has it off afterwards had it off before
+  off-call : {t : List ℕ} {h : List Entry} → (settingsOf t .limit ≡ 0 → StaysOff t h) → x .lent .table ≡ t → settingsOf (x .seen .table) .limit ≡ 0 → StaysOff (x .seen .table) (historyWith x h)
+  unfolding Throughout
+  off-call {t} {h} so table off = go (ltb (length (x .words)) 32) refl
+    where
+      go : (b : Bool) → ltb (length (x .words)) 32 ≡ b → StaysOff (x .seen .table) (pick b h (entryFor x ∷ h))
+      go true e =
+          let same : x .seen .table ≡ t = few e ∙ table in
+          subst (λ (z : List ℕ). StaysOff z h) (sym same) (so (subst (λ (z : List ℕ). settingsOf z .limit ≡ 0) same off))
+      go false e =
+          let was : settingsOf (x .lent .table) .limit ≡ 0 = sym (ap (λ (s : Settings). s .limit) (call-settings (x .call) (x .lent) (k .lends) .settings)) ∙ subst (λ (z : List ℕ). settingsOf z .limit ≡ 0) (enough e) off in
+          let s : StaysOff t h = so (subst (λ (z : List ℕ). settingsOf z .limit ≡ 0) table was) in
+          let m : ModeOff (x .lent .table) = subst ModeOff (sym table) (s .off) in
+          record {
+            off = subst ModeOff (sym (enough e)) (call-stays-off (entryFor x) (record { lends = k .lends; keeps = refl }) m);
+            as-before = (mode-off-call (x .call) (x .lent) m, s .as-before);
+          }
+
+-- MODE OFF: in any session of the exported functions whose table has no waiting limit in its settings, which only wtp_fresh writes, every call gave and left what the base's engine gives and leaves
+pub exported-mode-off : {max : ℕ} {t s : List ℕ} {h : List Entry} → Session max t s h → settingsOf t .limit ≡ 0 → StaysOff t h
+unfolding Throughout
+exported-mode-off (Session.made old store settings first made) e = record { off = fresh-off old settings first made e; as-before = tt }
+exported-mode-off (Session.refused {t = t} {h = h} session settings first unmade) e =
+    let same : tableAfterFresh (freshAnswer (length t) settings first) t settings first ≡ t = fresh-refused _ t settings first unmade in
+    subst (λ (z : List ℕ). StaysOff z h) (sym same) (exported-mode-off session (subst (λ (z : List ℕ). settingsOf z .limit ≡ 0) same e))
+exported-mode-off (Session.called session x k table store) e = off-call x k (λ q. exported-mode-off session q) table e

@@ -1,0 +1,9 @@
+pub mod Rows
+pub mod Steps
+pub mod Calls
+pub mod Formed
+pub mod Written
+pub mod Carried
+pub mod Fresh
+pub mod Kept
+pub mod Exported
