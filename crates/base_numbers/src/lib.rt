@@ -1,8 +1,8 @@
-// The numbers that a call gives back: refusals 1 to 11 of document 01 and 16 of the Reliable Data Service, and D1 to D7 of a malformed PDU.
+// The numbers that a call gives back: refusals 1 to 11 of document 01, 15 of a salvage and 16 of the Reliable Data Service, and D1 to D7 of a malformed PDU.
 ghost use mathlib.Core.Path.{_≡_};
 ghost use Rattle.base_numbers.specs.Numbers.{numberOf, codeOf};
 
-// Document 01, "Numbers given back", in its order; then 16, a frame of the Reliable Data Service that is malformed.
+// Document 01, "Numbers given back", in its order; then 15, a table's header that can't be salvaged, and 16, a frame of the Reliable Data Service that is malformed.
 pub enum Refusal {
     WrongSize,
     WrongTime,
@@ -15,6 +15,7 @@ pub enum Refusal {
     NotAllowed,
     WrongSetting,
     WrongLength,
+    WrongHeader,
     WrongFrame,
 }
 
@@ -57,6 +58,7 @@ pub fn number(r: Refusal) -> u64
         Refusal::NotAllowed => 9,
         Refusal::WrongSetting => 10,
         Refusal::WrongLength => 11,
+        Refusal::WrongHeader => 15,
         Refusal::WrongFrame => 16,
     }
 }

@@ -58,6 +58,7 @@ refused-over-0 Refusal.NoRecord e = absurd (omega (arith, e))
 refused-over-0 Refusal.NotAllowed e = absurd (omega (arith, e))
 refused-over-0 Refusal.WrongSetting e = absurd (omega (arith, e))
 refused-over-0 Refusal.WrongLength e = absurd (omega (arith, e))
+refused-over-0 Refusal.WrongHeader e = absurd (omega (arith, e))
 refused-over-0 Refusal.WrongFrame e = absurd (omega (arith, e))
 
 -- a call that gives 0 goes
