@@ -46,10 +46,10 @@ module _ (t : List ℕ) (i at : ℕ) (w : List ℕ) (low : base i ≤ at) (high 
   abbrev after : List ℕ
   after = put t at w
 
-  settings-stand : settingsOf after ≡ settingsOf t
+  pub settings-stand : settingsOf after ≡ settingsOf t
   settings-stand = settings-apart t at w (inl (omega arith))
 
-  header-stands : HeaderOk t → HeaderOk after
+  pub header-stands : HeaderOk t → HeaderOk after
   header-stands h = record {
     clock = rw (clock-apart t at w (omega arith)) (h .clock);
     gen-tid = rw (gen-tid-apart t at w (inl (omega arith))) (h .gen-tid);
@@ -67,7 +67,7 @@ module _ (t : List ℕ) (i at : ℕ) (w : List ℕ) (low : base i ≤ at) (high 
     go (inl h) = getD-before w t at k (omega arith)
     go (inr h) = getD-after w t at k (omega arith)
 
-  fields-stand : (j : ℕ) → (j ≡ i → ⊥) → recordAt after j ≡ recordAt t j
+  pub fields-stand : (j : ℕ) → (j ≡ i → ⊥) → recordAt after j ≡ recordAt t j
   fields-stand j d = record-apart t at w j (go (apart-rows headerSize recordSize j i d)) where
     go : Apart (base j) recordSize (base i) recordSize → Apart (base j) fieldsSize at (length w)
     go (inl h) = inl (omega arith)

@@ -1,0 +1,6 @@
+pub mod Octets
+pub mod Fates
+pub mod Outcome
+pub mod Pairs
+pub mod Lists
+pub mod Salvage

@@ -1,0 +1,1 @@
+// Salvage in the sentences of document 02, L12: laws alone.
