@@ -10,7 +10,7 @@ use lib.Dec.{ltb, eqb}
 use Rattle.base_layout.specs.Layout.{cellSize}
 use Rattle.base_lists.specs.Seq.{part}
 use Rattle.base_lists.proofs.StoresAndParts.{true-false}
-use Rattle.table_record.specs.Record.{roleOf, stateNumber}
+use Rattle.table_record.specs.Record.{roleOf, classOf, stateNumber}
 use Rattle.table_record.specs.declared.Role.the-variants.{Responder}
 use Rattle.table_record.specs.declared.State.{State}
 use Rattle.table_record.specs.declared.State.the-variants as State
@@ -47,15 +47,14 @@ use Rattle.step_outcome.specs.Carry.{Done, outcome}
 use Rattle.law_steps_sound.specs.Sound.{Fits}
 use Rattle.call_plans.specs.Calls.{Call, planFor, timeOf}
 use Rattle.law_history.specs.Tally.{lives}
-use Rattle.law_history.specs.Changed.{ByInvoke}
-use Rattle.step_arrivals.specs.declared.Name.the-variants.{Of}
 use Rattle.law_history.specs.Trace.{Entry, Promise}
 use Rattle.law_history.specs.Moves.{before, after}
-use Rattle.law_history.specs.Demand.{userData}
-use Rattle.law_data_shown.specs.Cells.{inTidokWait, responder, Awaits, CellHolds, CellsHold}
+use Rattle.law_history.specs.Start.{Start, inTidokWait}
+use Rattle.law_history.specs.Demand.{userData, responder, InvokeFrom}
+use Rattle.law_data_shown.specs.Cells.{CellHolds, CellsHold}
 use Rattle.law_ways.proofs.Ways.{Way}
 use Rattle.law_data_shown.proofs.Effects.{Left, Effect, done-is, effect}
-use Rattle.law_data_shown.proofs.Living.{called-lives, opener-stays, opener-is}
+use Rattle.law_data_shown.proofs.Living.{called-lives, invoke-stays, opener-is}
 use Rattle.law_data_shown.proofs.Verifying.{StillWaits, live-stays, isToVerify, none-writes-none, Verifies, opens-waiting}
 use Rattle.law_data_shown.proofs.Openings.{requested-one, opening-leaves, opening-puts, arrival-fits, opening, holder, opened-now}
 
@@ -92,19 +91,13 @@ same-waits r after e w = record {
   same-ack = ap (λ (x : Record). x .«user_ack») e;
 }
 
--- and is still that of its Invoke
-still-by : (o : Entry) (r after : Record) (cell : Bool) → StillWaits r after cell → ByInvoke o r → ByInvoke o after
-still-by o r after cell s b = record {
-  time = b .time;
-  received = b .received ∙ ap (Call.Receive (b .time)) (sym (s .same-peer));
-  role = ap roleOf (s .same-state) ∙ b .role;
-  names = b .names ∙ ap (Of Responder) (sym (s .same-tid));
-  invoke = rw (s .same-state, s .same-ack) (b .invoke);
-}
-
-module _ (e : Entry) (h : List Entry) (was : CellsHold (before e) (e .lent .store) h) where
+module _ (start : Start) (e : Entry) (h : List Entry) (was : CellsHold start (before e) (e .lent .store) h) where
   abbrev Holds : ℕ → Type 0
-  Holds i = CellHolds (after e) (e .done .store) (e ∷ h) i
+  Holds i = CellHolds start (after e) (e .done .store) (e ∷ h) i
+
+  abbrev Waiting : ℕ → Type 0
+  Waiting i =
+      InvokeFrom start (e ∷ h) (recordAt (after e) i .peer) (recordAt (after e) i .tid) (classOf (recordAt (after e) i .state)) (recordAt (after e) i .«user_ack») (part (e .done .store) (i * cellSize) (recordAt (after e) i .len))
 
   abbrev SameCell : ℕ → Type 0
   SameCell i = part (e .done .store) (i * cellSize) (recordAt (before e) i .len) ≡ part (e .lent .store) (i * cellSize) (recordAt (before e) i .len)
@@ -113,14 +106,8 @@ module _ (e : Entry) (h : List Entry) (was : CellsHold (before e) (e .lent .stor
   still-holds : (i : ℕ) (cell : Bool) → i < count (before e) → StillWaits (recordAt (before e) i) (recordAt (after e) i) cell → SameCell i → Holds i
   still-holds i cell inside s same w =
       let r : Record = recordAt (before e) i in
-      let a : Awaits (before e) (e .lent .store) h i = was i inside (s .waited) in
       let lived : lives (before e) (responder (r .peer) (r .tid)) ≡ true = called-lives (before e) (r .peer) (r .tid) i inside (waits-called r (s .waited)) in
-      record {
-        opener = a .opener;
-        opened = rw (s .same-peer, s .same-tid) (opener-stays e (a .opener) h (r .peer) (r .tid) lived (a .opened));
-        by = still-by (a .opener) r (recordAt (after e) i) cell s (a .by);
-        holds = rw (s .same-len) (same ∙ a .holds);
-      }
+      rw (s .same-peer, s .same-tid, s .same-state, s .same-ack, s .same-len, same) (invoke-stays start e h (r .peer) (r .tid) (classOf (r .state)) (r .«user_ack») (part (e .lent .store) (i * cellSize) (r .len)) lived (was i inside (s .waited)))
 
   -- a record that is as it was
   same-holds : (i : ℕ) → i < count (before e) → recordAt (after e) i ≡ recordAt (before e) i → (inTidokWait (recordAt (before e) i .state) ≡ true → SameCell i) → Holds i
@@ -151,7 +138,7 @@ module _ (e : Entry) (h : List Entry) (was : CellsHold (before e) (e .lent .stor
     unfolding liveStep stepOf turnChanges changeOf
     lived-holds w = go (eqb (stateNumber (turn .after .state)) 0) refl
       where
-        go : (b : Bool) → eqb (stateNumber (turn .after .state)) 0 ≡ b → Awaits (after e) (e .done .store) (e ∷ h) place
+        go : (b : Bool) → eqb (stateNumber (turn .after .state)) 0 ≡ b → Waiting place
         go true q = absurd (waits-live (recordAt (after e) place .state) w (left .freed (rw q refl)))
         go false q =
             let there : recordAt (after e) place ≡ turn .after = left .put-is (turn .after) (rw q refl) in
@@ -167,7 +154,7 @@ module _ (e : Entry) (h : List Entry) (was : CellsHold (before e) (e .lent .stor
     unfolding openingStep stepOf openingChanges openedTurn
     opening-holds verified w = go (eqb (stateNumber (opened .after .state)) 0) refl
       where
-        go : (b : Bool) → eqb (stateNumber (opened .after .state)) 0 ≡ b → Awaits (after e) (e .done .store) (e ∷ h) (holder .place)
+        go : (b : Bool) → eqb (stateNumber (opened .after .state)) 0 ≡ b → Waiting (holder .place)
         go true q =
             same-holds (holder .place) (left .inside) (left .untouched (opening-leaves (before e) opening holder g genTid c q))
             (λ waited. unwritten-cell (holder .place) (left .unwritten (none-writes-none _ g _ _ opening q))) w
@@ -212,12 +199,15 @@ module _ (e : Entry) (h : List Entry) (was : CellsHold (before e) (e .lent .stor
         verified v live w =
             let o = opened-now e time peer called u left live in
             let whole : part (e .lent .given) (keptPart p .start) (keptPart p .len) ≡ userData (e .lent .given) = ap (λ (q : Part). part (e .lent .given) (q .start) (q .len)) (kept-whole (v .to-verify)) in
-            record {
+            inl (record {
               opener = e;
               opened = rw (o .there, o .peer-is, o .tid-is) (opener-is e h peer (u .tid) (o .opens-is));
-              by = rw (o .there) (o .by);
-              holds = rw (o .there, v .same-len) (left .written (v .written) ∙ whole);
-            }
+              time = o .by .time;
+              received = rw (o .there) (o .by .received);
+              names = rw (o .there) (o .by .names);
+              invoke = rw (o .there) (o .by .invoke);
+              exact = rw (o .there, v .same-len) (left .written (v .written) ∙ whole);
+            })
 
   at-place : (step : Step) → Way (e .call) (e .lent) step → Left (e .lent) step (e .done) → Holds (step .changes .place)
   unfolding idleStep idleChanges liveStep stepOf turnChanges openingStep openingChanges requestStep requester unmatchedStep openedStep
@@ -226,7 +216,7 @@ module _ (e : Entry) (h : List Entry) (was : CellsHold (before e) (e .lent .stor
   at-place step (inr (inr (inl q))) left = rw (q .accepted .step-is) (requested-holds _ _ (rw (q .accepted .step-is) at left))
   at-place step (inr (inr (inr a))) left = rw (a .step-is) (arrived-holds (a .time) (a .peer) (a .call-is) (a .unmatched) (rw (a .step-is) at left))
 
-  accepted-holds : (step : Step) → Effect e step → CellsHold (after e) (e .done .store) (e ∷ h)
+  accepted-holds : (step : Step) → Effect e step → CellsHold start (after e) (e .done .store) (e ∷ h)
   accepted-holds step f i inside = go (equal-or i (step .changes .place))
     where
       go : (i ≡ step .changes .place) ⊎ (i ≡ step .changes .place → ⊥) → Holds i
@@ -234,16 +224,16 @@ module _ (e : Entry) (h : List Entry) (was : CellsHold (before e) (e .lent .stor
       go (inr d) = elsewhere step (f .accepted .fits) (f .left) i (rw (f .left .same-length) at inside) d
 
   -- a refusal
-  refused-holds : e .done .table ≡ e .lent .table → e .done .store ≡ e .lent .store → CellsHold (after e) (e .done .store) (e ∷ h)
+  refused-holds : e .done .table ≡ e .lent .table → e .done .store ≡ e .lent .store → CellsHold start (after e) (e .done .store) (e ∷ h)
   refused-holds table store i inside =
       same-holds i (rw table at inside) (ap (λ (t : List ℕ). recordAt t i) table) (λ waited. unwritten-cell i store)
 
-pub still-held : (e : Entry) → Promise e → (h : List Entry) → CellsHold (before e) (e .lent .store) h → CellsHold (after e) (e .done .store) (e ∷ h)
+pub still-held : (start : Start) (e : Entry) → Promise e → (h : List Entry) → CellsHold start (before e) (e .lent .store) h → CellsHold start (after e) (e .done .store) (e ∷ h)
 unfolding outcome
-still-held e p h was = go (planFor (e .call) (e .lent)) refl
+still-held start e p h was = go (planFor (e .call) (e .lent)) refl
   where
-    go : (q : Plan) → planFor (e .call) (e .lent) ≡ q → CellsHold (after e) (e .done .store) (e ∷ h)
+    go : (q : Plan) → planFor (e .call) (e .lent) ≡ q → CellsHold start (after e) (e .done .store) (e ∷ h)
     go (Refuse r) is =
         let d = done-is e p (Refuse r) is in
-        refused-holds e h was (ap (λ (x : Done). x .table) d) (ap (λ (x : Done). x .store) d)
-    go (Go step) is = accepted-holds e h was step (effect e p step is)
+        refused-holds start e h was (ap (λ (x : Done). x .table) d) (ap (λ (x : Done). x .store) d)
+    go (Go step) is = accepted-holds start e h was step (effect e p step is)

@@ -50,19 +50,20 @@ use Rattle.step_outcome.specs.Carry.{carriedOut, outcome}
 use Rattle.law_steps_sound.specs.Sound.{Fits}
 use Rattle.call_plans.specs.Calls.{Call, planFor}
 use Rattle.law_history.specs.Tally.{lives}
-use Rattle.table_record.specs.Record.{stateNumber}
+use Rattle.table_record.specs.Record.{classOf, stateNumber}
 use Rattle.table_record.specs.declared.Role.the-variants.{Responder}
 use Rattle.step_arrivals.specs.declared.Name.the-variants.{Of}
 use Rattle.law_history.specs.Trace.{Entry, Promise}
 use Rattle.law_history.specs.Moves.{before}
-use Rattle.law_history.specs.Demand.{Shows, userData, InvokeOpened, InvokeExact, Invoke0Taken, Invoke0Exact}
+use Rattle.law_history.specs.Start.{Start}
+use Rattle.law_history.specs.Demand.{Shows, userData, responder, InvokeFrom, InvokeExact, Invoke0Taken, Invoke0Exact}
 use Rattle.law_one_turn.proofs.Roles.{class-some}
-use Rattle.law_data_shown.specs.Cells.{responder, Awaits, CellsHold}
+use Rattle.law_data_shown.specs.Cells.{CellsHold}
 use Rattle.law_ways.proofs.Ways.{Lived, Way}
 use Rattle.law_data_shown.proofs.Indicated.{shows-invoke}
 use Rattle.law_data_shown.proofs.Results.{StepShows, same-shows, shows-as, user-shown}
 use Rattle.law_data_shown.proofs.Effects.{Left, Effect, done-is, effect}
-use Rattle.law_data_shown.proofs.Living.{called-lives, opener-stays, opener-is}
+use Rattle.law_data_shown.proofs.Living.{called-lives, invoke-stays, opener-is}
 use Rattle.law_data_shown.proofs.Verifying.{Indicates, live-shows, isShown0, opensClass, no-invokes, ShownAtOnce, opening-shows}
 use Rattle.law_data_shown.proofs.Openings.{requested-one, arrival-fits, opening, holder, turn, Invoking, invoking, names-it, lived-not, some-opened, opened-now}
 use Rattle.law_data_shown.proofs.Held.{waits-called}
@@ -111,7 +112,10 @@ module _ (peer tid class : ℕ) (up : Bool) (place : Place) where
   nothing-shown (inl s) = true-false (sym (ap (byKind false true false false false) s))
   nothing-shown (inr s) = true-false (sym (ap (byKind false true false false false) s))
 
-  module _ (e : Entry) (h : List Entry) (was : CellsHold (before e) (e .lent .store) h) where
+  module _ (start : Start) (e : Entry) (h : List Entry) (was : CellsHold start (before e) (e .lent .store) h) where
+    abbrev ItsInvoke : Type 0
+    ItsInvoke = InvokeFrom start (e ∷ h) peer tid class up (dataOf (e .lent .given) (e .done .store) place)
+
     abbrev Data : Entry → Type 0
     Data o = dataOf (e .lent .given) (e .done .store) place ≡ userData (o .lent .given)
 
@@ -142,23 +146,15 @@ module _ (peer tid class : ℕ) (up : Bool) (place : Place) where
       unfolding liveStep
       its-invoke s = step-invoke (liveTurn (before e) (k .place) (k .event) (k .given)) _ (holderOf r (k .place)) (k .asked) s
 
-      lived-exact : StepShows (liveStep (before e) (k .place) (k .event) (k .given) (k .asked)) invoke → InvokeOpened e h peer tid class up place
+      lived-exact : StepShows (liveStep (before e) (k .place) (k .event) (k .given) (k .asked)) invoke → ItsInvoke
       unfolding contextOf holderOf invokePlace
       lived-exact s =
           let x = its-invoke s in
           let f = live-shows (before e) (k .place) (k .event) (k .given) (x .verified) (x .indicates) in
           let at : place ≡ cell = sym (x .place-is) ∙ ap (λ (b : Bool). invokePlace b (contextOf (holderOf r (k .place)) (k .asked))) (f .was-verified) in
-          let a : Awaits (before e) (e .lent .store) h (k .place) = was (k .place) (k .live .inside) (f .waited) in
           let lived : lives (before e) (responder (r .peer) (r .tid)) ≡ true = called-lives (before e) (r .peer) (r .tid) (k .place) (k .live .inside) (waits-called r (f .waited)) in
-          record {
-            opener = a .opener;
-            opened = rw (x .peer-is, x .tid-is) at (opener-stays e (a .opener) h (r .peer) (r .tid) lived (a .opened));
-            time = a .by .time;
-            received = a .by .received ∙ ap (Call.Receive (a .by .time)) (x .peer-is);
-            names = a .by .names ∙ ap (Of Responder) (x .tid-is);
-            invoke = rw (x .class-is, x .up-is) at (a .by .invoke);
-            exact = ap (dataOf (e .lent .given) (e .done .store)) at ∙ (cell-shown ∙ (cell-kept (f .unwritten) ∙ a .holds));
-          }
+          let data-is : dataOf (e .lent .given) (e .done .store) place ≡ part (e .lent .store) (k .place * cellSize) (r .len) = ap (dataOf (e .lent .given) (e .done .store)) at ∙ (cell-shown ∙ cell-kept (f .unwritten)) in
+          rw data-is (rw (x .peer-is, x .tid-is, x .class-is, x .up-is) at (invoke-stays start e h (r .peer) (r .tid) (classOf (r .state)) (r .«user_ack») (part (e .lent .store) (k .place * cellSize) (r .len)) lived (was (k .place) (k .live .inside) (f .waited))))
 
       -- a live record shows none of class 0
       lived-not-0 : StepShows (liveStep (before e) (k .place) (k .event) (k .given) (k .asked)) invoke → 1 ≤ class
@@ -208,7 +204,7 @@ module _ (peer tid class : ℕ) (up : Bool) (place : Place) where
               absurd (omega (arith, big, zero, same))
           go false q = refl
 
-      arrived-exact : 1 ≤ class → Left (e .lent) arrived (e .done) → StepShows arrived invoke → InvokeOpened e h peer tid class up place
+      arrived-exact : 1 ≤ class → Left (e .lent) arrived (e .done) → StepShows arrived invoke → ItsInvoke
       unfolding arriverOf
       arrived-exact big left s =
           let x = its-shown s in
@@ -216,7 +212,7 @@ module _ (peer tid class : ℕ) (up : Bool) (place : Place) where
           let live = f .of-record (not-shown-0 big (x .class-is)) in
           let o = opened-now e time from called u left live in
           let k = invoking e time from called u (inr (opens-some live)) in
-          record {
+          inl (record {
             opener = e;
             opened = rw (x .peer-is, x .tid-is) at (opener-is e h from (u .tid) (o .opens-is));
             time = time;
@@ -224,7 +220,7 @@ module _ (peer tid class : ℕ) (up : Bool) (place : Place) where
             names = names-it e time from called u k ∙ ap (Of Responder) (x .tid-is);
             invoke = rw (x .class-is, x .up-is) at (k .invoke);
             exact = at-pdu x;
-          }
+          })
         where
           opens-some : 1 ≤ stateNumber (opened .after .state) → 1 ≤ opensClass arrives
           opens-some live = some-opened e time from called u live
@@ -254,7 +250,7 @@ module _ (peer tid class : ℕ) (up : Bool) (place : Place) where
               let k = invoking e time from called u (inr some) in
               absurd (omega (arith, some, k .of-class some, x .class-is, zero))
 
-    by-way : 1 ≤ class → (step : Step) → Fits (e .lent) → Left (e .lent) step (e .done) → Way (e .call) (e .lent) step → StepShows step invoke → InvokeOpened e h peer tid class up place
+    by-way : 1 ≤ class → (step : Step) → Fits (e .lent) → Left (e .lent) step (e .done) → Way (e .call) (e .lent) step → StepShows step invoke → ItsInvoke
     unfolding idleStep unmatchedStep openedStep
     by-way big step fits left (inl i) s = absurd (nothing-shown (same-shows (i .step-is) s))
     by-way big step fits left (inr (inl k)) s = lived-exact step k fits (rw (k .step-is) at left) (same-shows (k .step-is) s)
@@ -278,10 +274,10 @@ module _ (e : Entry) (p : Promise e) (peer tid class : ℕ) (up : Bool) (place :
       go (Refuse r) is = absurd (shows-as (Shown.Invoke peer tid class up place) (done-is e p (Refuse r) is) s)
       go (Go step) is = then step (effect e p step is) (shows-as (Shown.Invoke peer tid class up place) (done-is e p (Go step) is) s)
 
-pub invoke-exact : (e : Entry) → Promise e → (h : List Entry) → CellsHold (before e) (e .lent .store) h → InvokeExact e h
-invoke-exact e p h was peer tid class up place s big =
-    accepted e p peer tid class up place s (λ step f shows. by-way peer tid class up place e h was big step (f .accepted .fits) (f .left) (f .accepted .way) shows)
+pub invoke-exact : (start : Start) (e : Entry) → Promise e → (h : List Entry) → CellsHold start (before e) (e .lent .store) h → InvokeExact start e h
+invoke-exact start e p h was peer tid class up place s big =
+    accepted e p peer tid class up place s (λ step f shows. by-way peer tid class up place start e h was big step (f .accepted .fits) (f .left) (f .accepted .way) shows)
 
-pub invoke-0-exact : (e : Entry) → Promise e → (h : List Entry) → CellsHold (before e) (e .lent .store) h → Invoke0Exact e h
-invoke-0-exact e p h was peer tid up place s =
-    accepted e p peer tid 0 up place s (λ step f shows. by-way-0 peer tid 0 up place e h was refl step (f .accepted .fits) (f .left) (f .accepted .way) shows)
+pub invoke-0-exact : (start : Start) (e : Entry) → Promise e → (h : List Entry) → CellsHold start (before e) (e .lent .store) h → Invoke0Exact e h
+invoke-0-exact start e p h was peer tid up place s =
+    accepted e p peer tid 0 up place s (λ step f shows. by-way-0 peer tid 0 up place start e h was refl step (f .accepted .fits) (f .left) (f .accepted .way) shows)

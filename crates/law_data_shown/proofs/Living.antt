@@ -1,7 +1,7 @@
 -- Which names a call opens as a responder's: one that a live record had before is not opened anew. Assumes nothing.
 use Prim.Native.Nat.{ℕ, _<_}
 use mathlib.Core.Path.{_≡_, refl}
-use mathlib.Core.Bool.{true, false}
+use mathlib.Core.Bool.{Bool, true, false}
 use mathlib.Core.List.{List, _∷_}
 use mathlib.Core.Logic.{inl, inr}
 use Rattle.table_record.specs.declared.Role.the-variants.{Responder}
@@ -13,8 +13,8 @@ use Rattle.table_finding.specs.Searched.{Called, NoneOf}
 use Rattle.table_finding.proofs.Searches.{named-found, named-nothing}
 use Rattle.law_history.specs.Trace.{Entry}
 use Rattle.law_history.specs.Tally.{lives, opens}
-use Rattle.law_history.specs.Demand.{OpenedBy}
-use Rattle.law_data_shown.specs.Cells.{responder}
+use Rattle.law_history.specs.Start.{Start}
+use Rattle.law_history.specs.Demand.{OpenedBy, Unopened, responder, Received, AtStart, InvokeFrom}
 
 module _ (t : List ℕ) (peer tid : ℕ) where
   -- a live record so called is found
@@ -47,10 +47,28 @@ module _ (e : Entry) (peer tid : ℕ) where
   opens-now none lives-then = rw (none, lives-then) refl
 
 -- its opener stays the one that it had
-pub opener-stays : (e o : Entry) (h : List Entry) (peer tid : ℕ) → lives (e .lent .table) (responder peer tid) ≡ true → OpenedBy (responder peer tid) o h → OpenedBy (responder peer tid) o (e ∷ h)
+opener-stays : (e o : Entry) (h : List Entry) (peer tid : ℕ) → lives (e .lent .table) (responder peer tid) ≡ true → OpenedBy (responder peer tid) o h → OpenedBy (responder peer tid) o (e ∷ h)
 unfolding OpenedBy
 opener-stays e o h peer tid lived opened = inr (not-anew e peer tid lived, opened)
 
 pub opener-is : (e : Entry) (h : List Entry) (peer tid : ℕ) → opens e (responder peer tid) ≡ true → OpenedBy (responder peer tid) e (e ∷ h)
 unfolding OpenedBy
 opener-is e h peer tid opened = inl (opened, refl)
+
+unopened-stays : (e : Entry) (h : List Entry) (peer tid : ℕ) → lives (e .lent .table) (responder peer tid) ≡ true → Unopened (responder peer tid) h → Unopened (responder peer tid) (e ∷ h)
+unfolding Unopened
+unopened-stays e h peer tid lived unopened = (not-anew e peer tid lived, unopened)
+
+-- and so the Invoke of a record that lived before stays what it was
+pub invoke-stays : (start : Start) (e : Entry) (h : List Entry) (peer tid class : ℕ) (up : Bool) (octets : List ℕ) → lives (e .lent .table) (responder peer tid) ≡ true
+    → InvokeFrom start h peer tid class up octets → InvokeFrom start (e ∷ h) peer tid class up octets
+invoke-stays start e h peer tid class up octets lived (inl r) = inl (record {
+  opener = r .opener;
+  opened = opener-stays e (r .opener) h peer tid lived (r .opened);
+  time = r .time;
+  received = r .received;
+  names = r .names;
+  invoke = r .invoke;
+  exact = r .exact;
+})
+invoke-stays start e h peer tid class up octets lived (inr a) = inr (record { unopened = unopened-stays e h peer tid lived (a .unopened); kept = a .kept })

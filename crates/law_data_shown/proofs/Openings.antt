@@ -48,7 +48,7 @@ use Rattle.call_plans.specs.Calls.{Call}
 use Rattle.law_history.specs.Tally.{lives, opens}
 use Rattle.law_history.specs.Changed.{IsInvoke, ByInvoke}
 use Rattle.law_one_turn.proofs.Roles.{class-some}
-use Rattle.law_data_shown.specs.Cells.{responder}
+use Rattle.law_history.specs.Demand.{responder}
 use Rattle.law_data_shown.proofs.Effects.{Left}
 use Rattle.law_data_shown.proofs.Living.{called-lives, none-lives, opens-now}
 use Rattle.law_data_shown.proofs.Verifying.{isToVerify, isShown0, opensClass, opened-class, opened-ack}

@@ -32,7 +32,7 @@ use Rattle.row_turns.specs.Turns.{newRecord, movedTo, recordAfter, turnOf, rowT
 use Rattle.row_turns.specs.declared.Given.{Given}
 use Rattle.row_turns.specs.declared.Turn.{Turn}
 use Rattle.step_live.specs.Turning.{rowAt, liveTurn}
-use Rattle.law_data_shown.specs.Cells.{inTidokWait}
+use Rattle.law_history.specs.Start.{inTidokWait}
 
 -- a turn indicates this
 abbrev pub Indicates : Turn → Indication → Type 0

@@ -22,6 +22,7 @@ use Rattle.call_plans.specs.Concerns.{NamedBy, Concerns, fires}
 use Rattle.law_counting.specs.Counting.{Counts, none, plus, requested, aborted}
 use Rattle.law_history.specs.Trace.{Entry, Throughout}
 use Rattle.law_history.specs.Tally.{Name, isNamed, ofShown, ofAnswer, sentOf, peerOf, ofSent, adds}
+use Rattle.law_history.specs.Start.{Start}
 use Rattle.law_history.specs.Moves.{before, after}
 use Rattle.law_history.specs.Changed.{OutsideRecord, NamedOrFired, ByRequest, ByInvoke, OpenedAt, NoneChanged, OneChanged, CallFramed}
 use Rattle.law_history.specs.Demand.{ShownIn, Shows, ResultExact, Invoke0Exact, AbortAlone, OwnAborts, Demand3}
@@ -109,9 +110,9 @@ module _ (e : Entry) (h : List Entry) where
   no-refused-change f w = w .changed (ap (λ (t : List ℕ). getD t (w .octet) 0) (f .refused (w .refused) .0))
 
 -- throughout a history
-pub no-witness : (max : ℕ) (t : List ℕ) (h : List Entry) → Demand3 max t h → Throughout Unlike h
+pub no-witness : (start : Start) (max : ℕ) (t : List ℕ) (h : List Entry) → Demand3 start max t h → Throughout Unlike h
 unfolding Throughout
-no-witness max t h d = go h (d .framed) (d .alone) (d .results) (d .own-aborts) (d .invokes-0)
+no-witness start max t h d = go h (d .framed) (d .alone) (d .results) (d .own-aborts) (d .invokes-0)
   where
     go : (h : List Entry) → Throughout CallFramed h → Throughout AbortAlone h → Throughout ResultExact h → Throughout OwnAborts h → Throughout Invoke0Exact h → Throughout Unlike h
     go [] f a r o i = tt

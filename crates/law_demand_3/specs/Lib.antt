@@ -1,1 +1,2 @@
 pub mod Witnesses
+pub mod Again

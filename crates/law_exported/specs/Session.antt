@@ -7,6 +7,8 @@ use lib.Dec.{ltb}
 use Rattle.base_lists.specs.Seq.{pick}
 use Rattle.table_fresh.specs.Fresh.{freshAnswer, tableAfterFresh}
 use Rattle.table_fresh.specs.declared.Fresh.the-variants.{Made}
+use Rattle.table_layout.specs.Table.{settingsOf}
+use Rattle.table_salvage.specs.Salvage.{salvageNumber, tableSalvaged}
 use Rattle.step_outcome.specs.Carry.{Lent}
 use Rattle.call_plans.specs.Calls.{Call, promised, Lends}
 use Rattle.law_history.specs.Trace.{Entry}
@@ -32,13 +34,23 @@ entryFor x = record { call = x .call; lent = x .lent; done = promised (x .call) 
 abbrev pub historyWith : Exported → List Entry → List Entry
 historyWith x h = pick (ltb (length (x .words)) 32) h (entryFor x ∷ h)
 
--- calls one after another from wtp_fresh on, with RCR_MAX, the table, the store and the history that they leave; outputs, answers and data of any size
+-- calls one after another from a table and a store on, with the table, the store and the history that they leave; outputs, answers, lists and data of any size
+pub data Calls (t₀ s₀ : List ℕ) : List ℕ → List ℕ → List Entry → Type 0 where
+  begun : Calls t₀ s₀ t₀ s₀ []
+  -- wtp_fresh was refused
+  refused : {t s : List ℕ} {h : List Entry} → Calls t₀ s₀ t s h → (settings : List ℕ) (first : ℕ) → (freshAnswer (length t) settings first ≡ Made → ⊥)
+      → Calls t₀ s₀ (tableAfterFresh (freshAnswer (length t) settings first) t settings first) s h
+  -- wtp_salvage, accepted or not: of a table that nothing has damaged
+  salvaged : {t s : List ℕ} {h : List Entry} → Calls t₀ s₀ t s h → (list : List ℕ) → Calls t₀ s₀ (tableSalvaged t list) s h
+  -- an engine call
+  called : {t s : List ℕ} {h : List Entry} → Calls t₀ s₀ t s h → (x : Exported) → Keeps x → x .lent .table ≡ t → x .lent .store ≡ s
+      → Calls t₀ s₀ (x .seen .table) (x .seen .store) (historyWith x h)
+
+-- calls from wtp_fresh on, with RCR_MAX
 pub data Session : ℕ → List ℕ → List ℕ → List Entry → Type 0 where
   -- wtp_fresh made the table, whatever it and the store held before: a new history begins
-  made : (old store settings : List ℕ) (first : ℕ) → freshAnswer (length old) settings first ≡ Made → Session (getD settings 0 0) (tableAfterFresh Made old settings first) store []
-  -- wtp_fresh was refused
-  refused : {max : ℕ} {t s : List ℕ} {h : List Entry} → Session max t s h → (settings : List ℕ) (first : ℕ) → (freshAnswer (length t) settings first ≡ Made → ⊥)
-      → Session max (tableAfterFresh (freshAnswer (length t) settings first) t settings first) s h
-  -- an engine call
-  called : {max : ℕ} {t s : List ℕ} {h : List Entry} → Session max t s h → (x : Exported) → Keeps x → x .lent .table ≡ t → x .lent .store ≡ s
-      → Session max (x .seen .table) (x .seen .store) (historyWith x h)
+  made : (old store settings : List ℕ) (first : ℕ) → freshAnswer (length old) settings first ≡ Made → {t s : List ℕ} {h : List Entry} → Calls (tableAfterFresh Made old settings first) store t s h → Session (getD settings 0 0) t s h
+
+-- calls from an accepted wtp_salvage on (02, L12), whatever octets and words it was lent: what it left of the table, and the store, are the start of a new history
+pub data SalvagedSession (t₀ s₀ : List ℕ) : ℕ → List ℕ → List ℕ → List Entry → Type 0 where
+  salvaged : (old list : List ℕ) → salvageNumber old list ≡ 0 → tableSalvaged old list ≡ t₀ → {t s : List ℕ} {h : List Entry} → Calls t₀ s₀ t s h → SalvagedSession t₀ s₀ (settingsOf old .«rcr_max») t s h

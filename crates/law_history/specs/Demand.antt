@@ -25,6 +25,7 @@ use Rattle.step_outcome.specs.declared.Answer.the-variants.{Refused, Taken}
 use Rattle.call_plans.specs.Calls.{Call}
 use Rattle.law_history.specs.Trace.{Entry, Throughout}
 use Rattle.law_history.specs.Tally.{Name, sentOf, accepted, adds, lives, opens, tally}
+use Rattle.law_history.specs.Start.{Start}
 use Rattle.law_history.specs.Moves.{before}
 use Rattle.law_history.specs.Changed.{IsInvoke, CallFramed}
 
@@ -41,8 +42,8 @@ abbrev pub brings : Counts → ℕ
 brings c = c .confirms + c .results + c .aborts
 
 -- "nothing after the user's own abort or one shown to it"
-abbrev pub Calm : Entry → List Entry → Type 0
-Calm e h = (n : Name) → opens e n ≡ false → 1 ≤ brings (adds e n) → tally h n .aborts ≡ 0
+abbrev pub Calm : Start → Entry → List Entry → Type 0
+Calm start e h = (n : Name) → opens e n ≡ false → 1 ≤ brings (adds e n) → tally (start .counts) h n .aborts ≡ 0
 
 -- the user data of a PDU
 abbrev pub userData : List ℕ → List ℕ
@@ -72,18 +73,37 @@ unfoldable pub OpenedBy : Name → Entry → List Entry → Type 0
 OpenedBy n o [] = ⊥
 OpenedBy n o (e ∷ h) = ((opens e n ≡ true) × (o ≡ e)) ⊎ ((opens e n ≡ false) × OpenedBy n o h)
 
--- an Invoke of class 1 or 2 is that of the received PDU that opened its record, also after verification: peer, TID, class, U/P and data
-pub record InvokeOpened (e : Entry) (h : List Entry) (peer tid class : ℕ) (up : Bool) (place : Place) : Type 0 where
+-- no call opened a name
+unfoldable pub Unopened : Name → List Entry → Type 0
+Unopened n [] = Unit
+Unopened n (e ∷ h) = (opens e n ≡ false) × Unopened n h
+
+-- the name of a responder's record
+abbrev pub responder : ℕ → ℕ → Name
+responder peer tid = record { role = Responder; peer = peer; tid = tid }
+
+-- an Invoke is that of the received PDU that opened its record: peer, TID, class, U/P and data
+pub record Received (h : List Entry) (peer tid class : ℕ) (up : Bool) (octets : List ℕ) : Type 0 where
   pub opener : Entry
-  pub opened : OpenedBy (record { role = Responder; peer = peer; tid = tid }) opener (e ∷ h)
+  pub opened : OpenedBy (responder peer tid) opener h
   pub time : ℕ
   pub received : opener .call ≡ Call.Receive time peer
   pub names : nameOf (opener .lent .given) ≡ Of Responder tid
   pub invoke : IsInvoke (opener .lent .given) class up
-  pub exact : dataOf (e .lent .given) (e .done .store) place ≡ userData (opener .lent .given)
+  pub exact : octets ≡ userData (opener .lent .given)
 
-abbrev pub InvokeExact : Entry → List Entry → Type 0
-InvokeExact e h = (peer tid class : ℕ) (up : Bool) (place : Place) → Shows e (Shown.Invoke peer tid class up place) → 1 ≤ class → InvokeOpened e h peer tid class up place
+-- or, where no call opened its record, one that was there at the start
+pub record AtStart (start : Start) (h : List Entry) (peer tid class : ℕ) (up : Bool) (octets : List ℕ) : Type 0 where
+  pub unopened : Unopened (responder peer tid) h
+  pub kept : start .keeps peer tid class up octets
+
+abbrev pub InvokeFrom : Start → List Entry → ℕ → ℕ → ℕ → Bool → List ℕ → Type 0
+InvokeFrom start h peer tid class up octets = Received h peer tid class up octets ⊎ AtStart start h peer tid class up octets
+
+-- an Invoke of class 1 or 2 is so, also after verification
+abbrev pub InvokeExact : Start → Entry → List Entry → Type 0
+InvokeExact start e h = (peer tid class : ℕ) (up : Bool) (place : Place) → Shows e (Shown.Invoke peer tid class up place) → 1 ≤ class
+    → InvokeFrom start (e ∷ h) peer tid class up (dataOf (e .lent .given) (e .done .store) place)
 
 -- an Invoke of class 0 is that of a PDU received in this very call, for which no record lives
 pub record Invoke0Taken (e : Entry) (peer tid : ℕ) (up : Bool) (place : Place) : Type 0 where
@@ -115,23 +135,23 @@ abbrev pub OwnAborts : Entry → List Entry → Type 0
 OwnAborts e h = (time role peer tid reason : ℕ) → e .call ≡ Call.Abort time role peer tid reason → accepted (e .done .answer) ≡ true → OwnAbort e role peer tid reason
 
 -- within the limits after this call: so for every request and every record of the history, and not only for the last under its name
-abbrev pub Limited : ℕ → Entry → List Entry → Type 0
-Limited max e h = (n : Name) → Limits max (tally (e ∷ h) n)
+abbrev pub Limited : Start → ℕ → Entry → List Entry → Type 0
+Limited start max e h = (n : Name) → Limits max (tally (start .counts) (e ∷ h) n)
 
--- demand 3 of a table and its history, with RCR_MAX
-pub record Demand3 (max : ℕ) (t : List ℕ) (h : List Entry) : Type 0 where
+-- demand 3 of a table and its history, with where it began and RCR_MAX
+pub record Demand3 (start : Start) (max : ℕ) (t : List ℕ) (h : List Entry) : Type 0 where
   -- "No two live records ever share role, peer and TID"
   pub unique : Unique t (count t)
   -- "at most one confirmation, one result and one abort"; "Its Invoke PDUs and TIDok answers number at most 1 + RCR_MAX together"; "shows that Invoke to its user at most once"
-  pub limits : Throughout (Limited max) h
+  pub limits : Throughout (Limited start max) h
   -- "nothing after the user's own abort or one shown to it": in no later call, nor in the same one
-  pub calm : Throughout Calm h
+  pub calm : Throughout (Calm start) h
   pub alone : Throughout AbortAlone h
   pub own-aborts : Throughout OwnAborts h
   -- "a result only with the exact data of a Result PDU taken while that request waited for it"
   pub results : Throughout ResultExact h
   -- "A record opened by a received Invoke shows that Invoke"
-  pub invokes : Throughout InvokeExact h
+  pub invokes : Throughout (InvokeExact start) h
   pub invokes-0 : Throughout Invoke0Exact h
   -- "A call changes no record but the one it names, opens or fires"
   pub framed : Throughout CallFramed h

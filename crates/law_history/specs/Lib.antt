@@ -1,5 +1,6 @@
 pub mod Trace
 pub mod Tally
+pub mod Start
 pub mod Moves
 pub mod Changed
 pub mod Demand

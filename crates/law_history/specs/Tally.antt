@@ -109,7 +109,7 @@ opensFor Responder e n = pick (lives (e .lent .table) n) false (lives (e .done .
 unfoldable pub opens : Entry → Name → Bool
 opens e n = opensFor (n .role) e n
 
--- what was counted under a name since it was last opened
-unfoldable pub tally : List Entry → Name → Counts
-tally [] n = none
-tally (e ∷ h) n = plus (pick (opens e n) none (tally h n)) (adds e n)
+-- what was counted under a name since it was last opened, or since the start, with what counts as sent and shown before it
+unfoldable pub tally : (Name → Counts) → List Entry → Name → Counts
+tally start [] n = start n
+tally start (e ∷ h) n = plus (pick (opens e n) none (tally start h n)) (adds e n)

@@ -23,18 +23,18 @@ plus-none c =
       shows = same (c .shows) i;
     }
 
-module _ (e : Entry) (h : List Entry) (n : Name) where
+module _ (start : Name → Counts) (e : Entry) (h : List Entry) (n : Name) where
   -- where nothing is counted and nothing opened, the count is as it was
-  pub silent-tally : Silent e n → tally (e ∷ h) n ≡ tally h n
+  pub silent-tally : Silent e n → tally start (e ∷ h) n ≡ tally start h n
   unfolding tally
-  silent-tally s = rw (s .adds-none, s .not-opened) (plus-none (tally h n))
+  silent-tally s = rw (s .adds-none, s .not-opened) (plus-none (tally start h n))
 
   -- the count goes on
-  pub goes-on : (more : Counts) → opens e n ≡ false → adds e n ≡ more → tally (e ∷ h) n ≡ plus (tally h n) more
+  pub goes-on : (more : Counts) → opens e n ≡ false → adds e n ≡ more → tally start (e ∷ h) n ≡ plus (tally start h n) more
   unfolding tally
   goes-on more shut own = rw (own, shut) refl
 
   -- the count starts anew
-  pub starts-anew : (more : Counts) → opens e n ≡ true → adds e n ≡ more → tally (e ∷ h) n ≡ more
+  pub starts-anew : (more : Counts) → opens e n ≡ true → adds e n ≡ more → tally start (e ∷ h) n ≡ more
   unfolding tally
   starts-anew more opened own = rw (own, opened) (from-none more)

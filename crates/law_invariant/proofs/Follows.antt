@@ -15,6 +15,7 @@ use Rattle.table_record_ok.specs.OneRecord.{Live}
 use Rattle.law_counting.specs.Counting.{Counts, countsIn}
 use Rattle.law_history.specs.Trace.{Entry}
 use Rattle.law_history.specs.Tally.{Name, adds, opens, tally}
+use Rattle.law_history.specs.Start.{Start}
 use Rattle.law_history.specs.Moves.{nameOf}
 use Rattle.law_history.specs.Demand.{brings, Calm}
 use Rattle.law_invariant.specs.Invariant.{Inv}
@@ -36,19 +37,19 @@ sends-in RResultWait rcr holdOn live role = other-role role
 sends-in RResultRespWait rcr holdOn live role = other-role role
 sends-in RWaitTimeout rcr holdOn live role = other-role role
 
-module _ (max : ℕ) (t : List ℕ) (h : List Entry) (v : Inv max t h) (i : ℕ) (inside : i < count t) where
+module _ (start : Start) (max : ℕ) (t : List ℕ) (h : List Entry) (v : Inv start max t h) (i : ℕ) (inside : i < count t) where
   -- "RCR is the number of Invoke, TIDok or Result PDUs sent after the first": of a live initiator record
-  pub rcr-counts : Live (recordAt t i) → roleOf (recordAt t i .state) ≡ Initiator → tally h (nameOf (recordAt t i)) .sends ≡ 1 + recordAt t i .rcr .0
+  pub rcr-counts : Live (recordAt t i) → roleOf (recordAt t i .state) ≡ Initiator → tally (start .counts) h (nameOf (recordAt t i)) .sends ≡ 1 + recordAt t i .rcr .0
   rcr-counts live role =
       ap (λ (c : Counts). c .sends) (v .says i inside live) ∙ sends-in (recordAt t i .state) (recordAt t i .rcr .0) (recordAt t i .«hold_on») live role
 
   -- and of the responder's in RESULT RESP WAIT
-  pub rcr-counts-results : recordAt t i .state ≡ RResultRespWait → tally h (nameOf (recordAt t i)) .resultsSent ≡ 1 + recordAt t i .rcr .0
+  pub rcr-counts-results : recordAt t i .state ≡ RResultRespWait → tally (start .counts) h (nameOf (recordAt t i)) .resultsSent ≡ 1 + recordAt t i .rcr .0
   rcr-counts-results state =
       let live : Live (recordAt t i) = omega (arith, ap stateNumber state) in
       ap (λ (c : Counts). c .resultsSent) (v .says i inside live) ∙ ap (λ (s : State). countsIn s (recordAt t i .rcr .0) (recordAt t i .«hold_on») .resultsSent) state
 
-module _ (e : Entry) (h : List Entry) (calm : Calm e h) (n : Name) (shut : opens e n ≡ false) (aborted : 1 ≤ tally h n .aborts) where
+module _ (start : Start) (e : Entry) (h : List Entry) (calm : Calm start e h) (n : Name) (shut : opens e n ≡ false) (aborted : 1 ≤ tally (start .counts) h n .aborts) where
   -- "nothing after the user's own abort or one shown to it"
   pub nothing-after-abort : brings (adds e n) ≡ 0
   nothing-after-abort = go (lt-or-le (brings (adds e n)) 1)

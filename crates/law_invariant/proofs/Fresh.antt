@@ -16,12 +16,13 @@ use Rattle.table_fresh.proofs.Facts.{fresh-facts}
 use Rattle.law_fresh_formed.specs.FreshOk.{FreshOk}
 use Rattle.law_fresh_formed.proofs.Formed.{fresh-ok}
 use Rattle.law_history.specs.Tally.{tally}
+use Rattle.law_history.specs.Start.{fresh}
 use Rattle.law_invariant.specs.Invariant.{Inv}
 
-none-limits : (max : ℕ) → Limits max none
+pub none-limits : (max : ℕ) → Limits max none
 none-limits max = record { sends = omega arith; resultsSent = omega arith; confirms = omega arith; results = omega arith; aborts = omega arith; shows = omega arith }
 
-pub fresh-inv : (old t : List ℕ) (first : ℕ) → FreshOk old t first → Inv (settingsOf t .«rcr_max») t []
+pub fresh-inv : (old t : List ℕ) (first : ℕ) → FreshOk old t first → Inv fresh (settingsOf t .«rcr_max») t []
 unfolding tally
 fresh-inv old t first f = record {
   formed = f .formed;
@@ -36,7 +37,7 @@ module _ (old ws : List ℕ) (first : ℕ) (made : freshAnswer (length old) ws f
   unfolding tableAfterFresh
   fresh-rcr-max = ap (λ (s : Settings). s .«rcr_max») (fresh-facts (count old) ws first (in-range ws first (accepted (length old) ws first made .1)) .settings)
 
-  pub made-inv : Inv (getD ws 0 0) (tableAfterFresh Made old ws first) []
+  pub made-inv : Inv fresh (getD ws 0 0) (tableAfterFresh Made old ws first) []
   made-inv =
       let v = fresh-inv old (tableAfterFresh Made old ws first) first (fresh-ok old ws first made) in
       rw fresh-rcr-max at v

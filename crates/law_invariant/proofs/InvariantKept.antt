@@ -23,6 +23,7 @@ use Rattle.law_counting.proofs.Turns.{turn-fits, opening-fits}
 use Rattle.law_counting.proofs.Aborts.{Alone, turn-alone, opening-alone}
 use Rattle.law_history.specs.Trace.{Entry}
 use Rattle.law_history.specs.Tally.{Name, adds, opens, tally}
+use Rattle.law_history.specs.Start.{Start}
 use Rattle.law_history.specs.Moves.{nameOf, turnAdds, before, after, Silent, Quiet, Turned, openedTurn, Opened, Once, Move}
 use Rattle.law_history.specs.Demand.{brings, Calm, AbortAlone}
 use Rattle.law_invariant.specs.Invariant.{Says, Inv}
@@ -71,23 +72,23 @@ pub record Around (e : Entry) : Type 0 where
   pub same-settings : settingsOf (after e) ≡ settingsOf (before e)
 
 -- what a call does for demand 3
-pub record Stepped (max : ℕ) (e : Entry) (h : List Entry) : Type 0 where
-  pub inv : Inv max (after e) (e ∷ h)
-  pub calm : Calm e h
+pub record Stepped (start : Start) (max : ℕ) (e : Entry) (h : List Entry) : Type 0 where
+  pub inv : Inv start max (after e) (e ∷ h)
+  pub calm : Calm start e h
   pub alone : AbortAlone e h
 
-module _ (max : ℕ) (e : Entry) (h : List Entry) (v : Inv max (before e) h) (a : Around e) where
+module _ (start : Start) (max : ℕ) (e : Entry) (h : List Entry) (v : Inv start max (before e) h) (a : Around e) where
   abbrev t : List ℕ
   t = before e
 
-  silent-limits : (n : Name) → Silent e n → Limits max (tally (e ∷ h) n)
-  silent-limits n s = rw (silent-tally e h n s) (v .limits n)
+  silent-limits : (n : Name) → Silent e n → Limits max (tally (start .counts) (e ∷ h) n)
+  silent-limits n s = rw (silent-tally (start .counts) e h n s) (v .limits n)
 
   silent-brings : (n : Name) → Silent e n → 1 ≤ brings (adds e n) → ⊥
   silent-brings n s b = omega (arith, rw (s .adds-none) at b)
 
   abbrev CalmAt : Name → Type 0
-  CalmAt n = opens e n ≡ false → 1 ≤ brings (adds e n) → tally h n .aborts ≡ 0
+  CalmAt n = opens e n ≡ false → 1 ≤ brings (adds e n) → tally (start .counts) h n .aborts ≡ 0
 
   silent-calm : (n : Name) → Silent e n → CalmAt n
   silent-calm n s shut b = absurd (silent-brings n s b)
@@ -107,12 +108,12 @@ module _ (max : ℕ) (e : Entry) (h : List Entry) (v : Inv max (before e) h) (a 
       go (inr d) = else n (others n d)
 
   -- a live record that didn't change, under a name that is silent
-  still-says : (i : ℕ) → i < count t → recordAt (after e) i ≡ recordAt t i → (Live (recordAt t i) → Silent e (nameOf (recordAt t i))) → Live (recordAt (after e) i) → Says (after e) (e ∷ h) i
+  still-says : (i : ℕ) → i < count t → recordAt (after e) i ≡ recordAt t i → (Live (recordAt t i) → Silent e (nameOf (recordAt t i))) → Live (recordAt (after e) i) → Says start (after e) (e ∷ h) i
   still-says i inside same quiet live =
       let l : Live (recordAt t i) = rw same at live in
-      rw (same, silent-tally e h (nameOf (recordAt t i)) (quiet l)) (v .says i inside l)
+      rw (same, silent-tally (start .counts) e h (nameOf (recordAt t i)) (quiet l)) (v .says i inside l)
 
-  next-inv : ((i : ℕ) → i < count t → Live (recordAt (after e) i) → Says (after e) (e ∷ h) i) → ((n : Name) → Limits max (tally (e ∷ h) n)) → Inv max (after e) (e ∷ h)
+  next-inv : ((i : ℕ) → i < count t → Live (recordAt (after e) i) → Says start (after e) (e ∷ h) i) → ((n : Name) → Limits max (tally (start .counts) (e ∷ h) n)) → Inv start max (after e) (e ∷ h)
   next-inv says limits = record {
     formed = a .formed;
     rcr-max = rw (a .same-settings) (v .rcr-max);
@@ -123,19 +124,19 @@ module _ (max : ℕ) (e : Entry) (h : List Entry) (v : Inv max (before e) h) (a 
   within-max : (r : Record) (c : Counts) → Tallied (settingsOf t .«rcr_max») r c → Tallied max r c
   within-max r c = subst (λ (n : ℕ). Tallied n r c) (v .rcr-max)
 
-  pub quiet-keeps : Quiet e → Stepped max e h
+  pub quiet-keeps : Quiet e → Stepped start max e h
   quiet-keeps q = record {
     inv = next-inv (λ i inside live. still-says i inside (q .same i) (λ l. q .silent (nameOf (recordAt t i))) live) (λ n. silent-limits n (q .silent n));
     calm = λ n shut b. silent-calm n (q .silent n) shut b;
     alone = λ n. silent-alone n (q .silent n);
   }
 
-  pub once-keeps : Once e → Stepped max e h
+  pub once-keeps : Once e → Stepped start max e h
   once-keeps m = record {
     inv =
         next-inv
         (λ i inside live. still-says i inside (m .same i) (λ l. m .others (nameOf (recordAt t i)) (unused-name t (m .name) (m .unused) i inside l)) live)
-        (by-name (λ n. Limits max (tally (e ∷ h) n)) (m .name) (m .others) (rw (starts-anew e h (m .name) (requested 1 0 0) (m .opened) (m .own)) (once-limits max)) silent-limits);
+        (by-name (λ n. Limits max (tally (start .counts) (e ∷ h) n)) (m .name) (m .others) (rw (starts-anew (start .counts) e h (m .name) (requested 1 0 0) (m .opened) (m .own)) (once-limits max)) silent-limits);
     calm = by-name CalmAt (m .name) (m .others) (λ shut b. true-false (sym (m .opened) ∙ shut)) silent-calm;
     alone = by-name AloneAt (m .name) (m .others) (rw (m .own) (λ some. absurd (omega (arith, some)))) silent-alone;
   }
@@ -147,12 +148,12 @@ module _ (max : ℕ) (e : Entry) (h : List Entry) (v : Inv max (before e) h) (a 
     abbrev turn : Turn
     turn = liveTurn t (m .place) (m .event) (m .given)
 
-    tallied : Tallied max (turn .after) (counted (tally h (nameOf was)) turn)
+    tallied : Tallied max (turn .after) (counted (tally (start .counts) h (nameOf was)) turn)
     unfolding liveTurn rowAt
     tallied =
         let bounds : Bounded (settingsOf t) was = live-range t (v .formed) (m .place) (record { inside = m .inside; live = m .live }) .bounds in
-        within-max (turn .after) (counted (tally h (nameOf was)) turn)
-        (turn-fits (m .given) (settingsOf t) (intervalsOf t) (m .event) was (tally h (nameOf was)) (m .live) bounds (v .formed .header .settings .rcr-max) (v .says (m .place) (m .inside) (m .live)))
+        within-max (turn .after) (counted (tally (start .counts) h (nameOf was)) turn)
+        (turn-fits (m .given) (settingsOf t) (intervalsOf t) (m .event) was (tally (start .counts) h (nameOf was)) (m .live) bounds (v .formed .header .settings .rcr-max) (v .says (m .place) (m .inside) (m .live)))
 
     kept-or-freed : FreedOrSame was (turn .after)
     unfolding liveTurn rowAt
@@ -162,26 +163,26 @@ module _ (max : ℕ) (e : Entry) (h : List Entry) (v : Inv max (before e) h) (a 
     unfolding liveTurn rowAt
     own-alone = turn-alone was (m .given) (settingsOf t) (intervalsOf t) (rowAt t (m .place) (m .event))
 
-    tally-is : tally (e ∷ h) (nameOf was) ≡ counted (tally h (nameOf was)) turn
-    tally-is = goes-on e h (nameOf was) (turnAdds turn) (m .not-opened) (m .own)
+    tally-is : tally (start .counts) (e ∷ h) (nameOf was) ≡ counted (tally (start .counts) h (nameOf was)) turn
+    tally-is = goes-on (start .counts) e h (nameOf was) (turnAdds turn) (m .not-opened) (m .own)
 
-    here-says : Live (recordAt (after e) (m .place)) → Says (after e) (e ∷ h) (m .place)
+    here-says : Live (recordAt (after e) (m .place)) → Says start (after e) (e ∷ h) (m .place)
     here-says live = go (tallied .state)
       where
-        go : FreedOrFits (turn .after) (counted (tally h (nameOf was)) turn) → Says (after e) (e ∷ h) (m .place)
+        go : FreedOrFits (turn .after) (counted (tally (start .counts) h (nameOf was)) turn) → Says start (after e) (e ∷ h) (m .place)
         go (inl x) = absurd (not-free (recordAt (after e) (m .place) .state) live (m .freed (freed-is-dead (turn .after) x)))
         go (inr x) = rw (m .put (x .0), name-kept was (turn .after) kept-or-freed (x .0), tally-is) (x .1)
 
-    all-say : (i : ℕ) → i < count t → Live (recordAt (after e) i) → Says (after e) (e ∷ h) i
+    all-say : (i : ℕ) → i < count t → Live (recordAt (after e) i) → Says start (after e) (e ∷ h) i
     all-say i inside live = go (same-number i (m .place))
       where
-        go : (i ≡ m .place) ⊎ (i ≡ m .place → ⊥) → Says (after e) (e ∷ h) i
-        go (inl q) = subst (λ j. Says (after e) (e ∷ h) j) (sym q) (here-says (rw q at live))
+        go : (i ≡ m .place) ⊎ (i ≡ m .place → ⊥) → Says start (after e) (e ∷ h) i
+        go (inl q) = subst (λ j. Says start (after e) (e ∷ h) j) (sym q) (here-says (rw q at live))
         go (inr d) = still-says i inside (m .rest i d) (λ l. m .others (nameOf (recordAt t i)) (two-names t (v .formed) i (m .place) inside (m .inside) d l (m .live))) live
 
-    pub turned-keeps : Stepped max e h
+    pub turned-keeps : Stepped start max e h
     turned-keeps = record {
-      inv = next-inv all-say (by-name (λ n. Limits max (tally (e ∷ h) n)) (nameOf was) (m .others) (rw tally-is (tallied .limits)) silent-limits);
+      inv = next-inv all-say (by-name (λ n. Limits max (tally (start .counts) (e ∷ h) n)) (nameOf was) (m .others) (rw tally-is (tallied .limits)) silent-limits);
       calm = by-name CalmAt (nameOf was) (m .others) (λ shut b. rw (v .says (m .place) (m .inside) (m .live)) (none-aborted (was .state) (was .rcr .0) (was .«hold_on»))) silent-calm;
       alone = by-name AloneAt (nameOf was) (m .others) (rw (m .own) own-alone) silent-alone;
     }
@@ -193,28 +194,28 @@ module _ (max : ℕ) (e : Entry) (h : List Entry) (v : Inv max (before e) h) (a 
     new-tallied : Tallied max (first .after) (turnAdds first)
     new-tallied = within-max (first .after) (turnAdds first) (opening-fits (m .given) (settingsOf t) (intervalsOf t) (m .opening) (m .name .peer) (m .name .tid) (m .userAck) (m .tidnew))
 
-    new-tally : tally (e ∷ h) (m .name) ≡ turnAdds first
-    new-tally = starts-anew e h (m .name) (turnAdds first) (m .opened) (m .own)
+    new-tally : tally (start .counts) (e ∷ h) (m .name) ≡ turnAdds first
+    new-tally = starts-anew (start .counts) e h (m .name) (turnAdds first) (m .opened) (m .own)
 
-    new-says : Says (after e) (e ∷ h) (m .place)
+    new-says : Says start (after e) (e ∷ h) (m .place)
     new-says = rw (m .put, m .named, new-tally) (live-fits (first .after) (turnAdds first) (new-tallied .state) (m .live))
 
-    each-says : (i : ℕ) → i < count t → Live (recordAt (after e) i) → Says (after e) (e ∷ h) i
+    each-says : (i : ℕ) → i < count t → Live (recordAt (after e) i) → Says start (after e) (e ∷ h) i
     each-says i inside live = go (same-number i (m .place))
       where
-        go : (i ≡ m .place) ⊎ (i ≡ m .place → ⊥) → Says (after e) (e ∷ h) i
-        go (inl q) = subst (λ j. Says (after e) (e ∷ h) j) (sym q) new-says
+        go : (i ≡ m .place) ⊎ (i ≡ m .place → ⊥) → Says start (after e) (e ∷ h) i
+        go (inl q) = subst (λ j. Says start (after e) (e ∷ h) j) (sym q) new-says
         go (inr d) = still-says i inside (m .rest i d) (λ l. m .others (nameOf (recordAt t i)) (unused-name t (m .name) (m .unused) i inside l)) live
 
-    pub opened-keeps : Stepped max e h
+    pub opened-keeps : Stepped start max e h
     opened-keeps = record {
-      inv = next-inv each-says (by-name (λ n. Limits max (tally (e ∷ h) n)) (m .name) (m .others) (rw new-tally (new-tallied .limits)) silent-limits);
+      inv = next-inv each-says (by-name (λ n. Limits max (tally (start .counts) (e ∷ h) n)) (m .name) (m .others) (rw new-tally (new-tallied .limits)) silent-limits);
       calm = by-name CalmAt (m .name) (m .others) (λ shut b. true-false (sym (m .opened) ∙ shut)) silent-calm;
       alone = by-name AloneAt (m .name) (m .others) (rw (m .own) (opening-alone (newRecord (m .name .peer) (m .name .tid) (m .userAck) (m .tidnew)) (m .given) (settingsOf t) (intervalsOf t) (m .opening))) silent-alone;
     }
 
   -- any move
-  pub move-keeps : Move e → Stepped max e h
+  pub move-keeps : Move e → Stepped start max e h
   move-keeps (inl q) = quiet-keeps q
   move-keeps (inr (inl m)) = turned-keeps m
   move-keeps (inr (inr (inl m))) = opened-keeps m

@@ -4,4 +4,5 @@ pub mod Refused
 pub mod InvariantKept
 pub mod Through
 pub mod Fresh
+pub mod Formed
 pub mod Follows

@@ -14,6 +14,7 @@ use Rattle.law_plans_sound.specs.Plans.{RestUnchanged, StillFits}
 use Rattle.call_plans.specs.Calls.{planFor}
 use Rattle.law_calls.proofs.Outcomes.{call-still-fits, call-keeps}
 use Rattle.law_history.specs.Trace.{Entry, Promise, Run, Throughout}
+use Rattle.law_history.specs.Start.{Start}
 use Rattle.law_history.specs.Moves.{before, after}
 use Rattle.law_invariant.specs.Invariant.{Inv, Moves, Sizes, NotForSize, Held}
 use Rattle.law_invariant.proofs.Refused.{refused-is, refused-quiet}
@@ -66,6 +67,11 @@ module _ (e : Entry) (p : Promise e) where
   not-for-size : Sizes (before e) (e .lent .store) → (h : List Entry) → NotForSize e h
   not-for-size z h room q = fits-not-refused (e .call) (e .lent) (record { formed = z .formed; cells = z .cells; room = room }) q
 
+-- after any calls the table is well formed
+pub formed-through : {t₀ s₀ t s : List ℕ} {h : List Entry} → WellFormed t₀ → Run t₀ s₀ t s h → WellFormed t
+formed-through w Run.start = w
+formed-through w (Run.called run e p tab sto) = around e p (subst WellFormed (sym tab) (formed-through w run)) .formed
+
 -- after any calls, refused ones among them, the table is well formed and the store fits it
 pub sizes-through : {t₀ s₀ t s : List ℕ} {h : List Entry} → Sizes t₀ s₀ → Run t₀ s₀ t s h → Sizes t s
 sizes-through z Run.start = z
@@ -77,19 +83,19 @@ unfolding Throughout
 never-refused-1 z Run.start = tt
 never-refused-1 z (Run.called {h = h} run e p tab sto) = (not-for-size e p (rw (tab, sto) (sizes-through z run)) h, never-refused-1 z run)
 
-module _ (moves : Moves) (max : ℕ) where
-  pub call-steps : (e : Entry) (h : List Entry) → Promise e → Inv max (before e) h → Stepped max e h
+module _ (moves : Moves) (start : Start) (max : ℕ) where
+  pub call-steps : (e : Entry) (h : List Entry) → Promise e → Inv start max (before e) h → Stepped start max e h
   call-steps e h p v = go (planFor (e .call) (e .lent)) refl
     where
-      go : (plan : Plan) → planFor (e .call) (e .lent) ≡ plan → Stepped max e h
-      go (Refuse r) q = quiet-keeps max e h v (refused-around e p r q (v .formed)) (refused-quiet e p r q)
-      go (Go step) q = move-keeps max e h v (accepted-around e p step q) (moves e p step q)
+      go : (plan : Plan) → planFor (e .call) (e .lent) ≡ plan → Stepped start max e h
+      go (Refuse r) q = quiet-keeps start max e h v (refused-around e p r q (v .formed)) (refused-quiet e p r q)
+      go (Go step) q = move-keeps start max e h v (accepted-around e p step q) (moves e p step q)
 
   -- from any start that satisfies it
-  pub kept-through : {t₀ s₀ t s : List ℕ} {h : List Entry} → Inv max t₀ [] → Run t₀ s₀ t s h → Held max t h
+  pub kept-through : {t₀ s₀ t s : List ℕ} {h : List Entry} → Inv start max t₀ [] → Run t₀ s₀ t s h → Held start max t h
   unfolding Throughout
   kept-through v Run.start = record { inv = v; limits = tt; calm = tt; alone = tt }
   kept-through v (Run.called {h = h} run e p tab sto) =
       let k = kept-through v run in
-      let s : Stepped max e h = call-steps e h p (subst (λ (x : List ℕ). Inv max x h) (sym tab) (k .inv)) in
+      let s : Stepped start max e h = call-steps e h p (subst (λ (x : List ℕ). Inv start max x h) (sym tab) (k .inv)) in
       record { inv = s .inv; limits = (s .inv .limits, k .limits); calm = (s .calm, k .calm); alone = (s .alone, k .alone) }

@@ -14,19 +14,20 @@ use Rattle.step_plan.specs.declared.Plan.the-variants.{Refuse, Go}
 use Rattle.call_plans.specs.Calls.{planFor}
 use Rattle.law_history.specs.Trace.{Entry, Promise, Throughout}
 use Rattle.law_history.specs.Tally.{Name, tally}
+use Rattle.law_history.specs.Start.{Start}
 use Rattle.law_history.specs.Moves.{nameOf, Move}
 use Rattle.law_history.specs.Demand.{Limited, Calm, AbortAlone}
 
 -- the record at a place says what was counted under its name since it was opened
-abbrev pub Says : List ℕ → List Entry → ℕ → Type 0
-Says t h i = Fits (recordAt t i) (tally h (nameOf (recordAt t i)))
+abbrev pub Says : Start → List ℕ → List Entry → ℕ → Type 0
+Says start t h i = Fits (recordAt t i) (tally (start .counts) h (nameOf (recordAt t i)))
 
--- a table, its history and RCR_MAX
-pub record Inv (max : ℕ) (t : List ℕ) (h : List Entry) : Type 0 where
+-- a table, its history, where that began, and RCR_MAX
+pub record Inv (start : Start) (max : ℕ) (t : List ℕ) (h : List Entry) : Type 0 where
   pub formed : WellFormed t
   pub rcr-max : settingsOf t .«rcr_max» ≡ max
-  pub says : (i : ℕ) → i < count t → Live (recordAt t i) → Says t h i
-  pub limits : (n : Name) → Limits max (tally h n)
+  pub says : (i : ℕ) → i < count t → Live (recordAt t i) → Says start t h i
+  pub limits : (n : Name) → Limits max (tally (start .counts) h n)
 
 -- every accepted call is a move
 abbrev pub Moves : Type 0
@@ -42,8 +43,8 @@ abbrev pub NotForSize : Entry → List Entry → Type 0
 NotForSize e h = outputLeast ≤ length (e .lent .output) → planFor (e .call) (e .lent) ≡ Refuse WrongSize → ⊥
 
 -- what is so after any calls: the invariant, and the sentences of demand 3 about each call that need no data
-pub record Held (max : ℕ) (t : List ℕ) (h : List Entry) : Type 0 where
-  pub inv : Inv max t h
-  pub limits : Throughout (Limited max) h
-  pub calm : Throughout Calm h
+pub record Held (start : Start) (max : ℕ) (t : List ℕ) (h : List Entry) : Type 0 where
+  pub inv : Inv start max t h
+  pub limits : Throughout (Limited start max) h
+  pub calm : Throughout (Calm start) h
   pub alone : Throughout AbortAlone h

@@ -11,10 +11,14 @@ use Rattle.table_layout.specs.declared.Settings.{Settings}
 use Rattle.table_fresh.specs.Fresh.{freshAnswer, tableAfterFresh}
 use Rattle.table_fresh.specs.declared.Fresh.{Fresh}
 use Rattle.table_fresh.specs.declared.Fresh.the-variants as Fresh
+use Rattle.table_well_formed.specs.WellFormed.{WellFormed}
+use Rattle.table_salvage.specs.Salvage.{tableSalvaged}
+use Rattle.law_fresh_formed.proofs.Formed.{fresh-ok}
 use Rattle.call_plans.specs.Calls.{promised}
 use Rattle.law_history.specs.Trace.{Entry, Throughout}
 use Rattle.wtp.specs.Engine.{Called, handed, orSmall}
-use Rattle.law_exported.specs.Session.{Exported, Keeps, entryFor, historyWith, Session}
+use Rattle.law_exported.specs.Session.{Exported, Keeps, entryFor, historyWith, Calls, Session}
+use Rattle.law_exported.proofs.Exported.{salvage-leaves}
 use Rattle.law_mode_off.specs.BaseCalls.{baseCalledBy}
 use Rattle.law_mode_off.specs.ModeOff.{ModeOff, StaysOff}
 use Rattle.law_mode_off.proofs.Carried.{mode-off-call}
@@ -57,11 +61,18 @@ module _ (x : Exported) (k : Keeps x) where
             as-before = (mode-off-call (x .call) (x .lent) m, s .as-before);
           }
 
+-- of any calls from a table on
+calls-off : {t₀ s₀ t s : List ℕ} {h : List Entry} → WellFormed t₀ → (settingsOf t₀ .limit ≡ 0 → ModeOff t₀) → Calls t₀ s₀ t s h → settingsOf t .limit ≡ 0 → StaysOff t h
+unfolding Throughout
+calls-off w first-off Calls.begun e = record { off = first-off e; as-before = tt }
+calls-off w first-off (Calls.refused {t = t} {h = h} calls settings first unmade) e =
+    let same : tableAfterFresh (freshAnswer (length t) settings first) t settings first ≡ t = fresh-refused _ t settings first unmade in
+    subst (λ (z : List ℕ). StaysOff z h) (sym same) (calls-off w first-off calls (subst (λ (z : List ℕ). settingsOf z .limit ≡ 0) same e))
+calls-off w first-off (Calls.salvaged {t = t} {h = h} calls list) e =
+    let same : tableSalvaged t list ≡ t = salvage-leaves w calls list in
+    subst (λ (z : List ℕ). StaysOff z h) (sym same) (calls-off w first-off calls (subst (λ (z : List ℕ). settingsOf z .limit ≡ 0) same e))
+calls-off w first-off (Calls.called calls x k table store) e = off-call x k (λ q. calls-off w first-off calls q) table e
+
 -- MODE OFF: in any session of the exported functions whose table has no waiting limit in its settings, which only wtp_fresh writes, every call gave and left what the base's engine gives and leaves
 pub exported-mode-off : {max : ℕ} {t s : List ℕ} {h : List Entry} → Session max t s h → settingsOf t .limit ≡ 0 → StaysOff t h
-unfolding Throughout
-exported-mode-off (Session.made old store settings first made) e = record { off = fresh-off old settings first made e; as-before = tt }
-exported-mode-off (Session.refused {t = t} {h = h} session settings first unmade) e =
-    let same : tableAfterFresh (freshAnswer (length t) settings first) t settings first ≡ t = fresh-refused _ t settings first unmade in
-    subst (λ (z : List ℕ). StaysOff z h) (sym same) (exported-mode-off session (subst (λ (z : List ℕ). settingsOf z .limit ≡ 0) same e))
-exported-mode-off (Session.called session x k table store) e = off-call x k (λ q. exported-mode-off session q) table e
+exported-mode-off (Session.made old store settings first made calls) e = calls-off (fresh-ok old settings first made .formed) (λ q. fresh-off old settings first made q) calls e

@@ -21,7 +21,7 @@ use Rattle.table_salvage.proofs.Turns.{pairs-few}
 use Rattle.law_salvage.specs.Reasons.{Reason}
 use Rattle.law_salvage.specs.Listed.{Listed, howMany, placeIn}
 use Rattle.law_salvage.specs.Sentences.{SameRecord, Changed, Salvaged, SizesOk, Accepts}
-use Rattle.law_salvage.proofs.Octets.{reasonFor, salvaged-length, not-reached, all-stay}
+use Rattle.law_salvage.proofs.Octets.{reasonFor, salvaged-length, salvaged-settings, not-reached, all-stay}
 use Rattle.law_salvage.proofs.Outcome.{free-octet, live-octet, stays, zeroed, outcome-formed, reason-so, reason-found, reason-changes, could-not-stay}
 use Rattle.law_salvage.proofs.Pairs.{Pairs, pairs}
 use Rattle.law_salvage.proofs.Lists.{how-many, place-in, reason-in, words-written}
@@ -247,6 +247,10 @@ module _ (t list : List ℕ) where
       let a : Accepts t list = number-0 .0 e in
       let q = accepted-is a in
       rw (q .0, q .1) (salvaged t list a)
+
+  -- its settings are those that it had
+  pub salvage-settings : salvageNumber t list ≡ 0 → settingsOf (tableSalvaged t list) ≡ settingsOf t
+  salvage-settings e = rw (accepted-is (number-0 .0 e) .0) (salvaged-settings t (count t))
 
   -- and a well-formed table comes back as it was, with nothing listed
   pub formed-unchanged : WellFormed t → 97 ≤ length list → (salvageNumber t list ≡ 0) × ((tableSalvaged t list ≡ t) × (listSalvaged t list ≡ put list 0 (replicate 97 0)))
