@@ -14,7 +14,7 @@ use Rattle.table_finding.proofs.Searches.{named-found, named-nothing}
 use Rattle.law_history.specs.Trace.{Entry}
 use Rattle.law_history.specs.Tally.{lives, opens}
 use Rattle.law_history.specs.Start.{Start}
-use Rattle.law_history.specs.Demand.{OpenedBy, Unopened, responder, Received, AtStart, InvokeFrom}
+use Rattle.law_history.specs.Demand.{OpenedBy, Unopened, responder, InvokeFrom}
 
 module _ (t : List ℕ) (peer tid : ℕ) where
   -- a live record so called is found

@@ -3,15 +3,13 @@ use Prim.Native.Nat.{ℕ, _+_, _≤_, _<_}
 use native.Mathlib.Omega.{arith}
 use borrow.Author.Tests.{ne-eqb}
 use mathlib.Core.Path.{_≡_, refl, sym, ap, _∙_}
-use mathlib.Core.Bool.{Bool, true, false}
+use mathlib.Core.Bool.{true, false}
 use mathlib.Core.List.{List, [], _∷_}
-use mathlib.Core.Logic.{_⊎_, inl, inr}
+use mathlib.Core.Logic.{inl, inr}
 use lib.Dec.{eqb}
 use Rattle.table_record.specs.Record.{roleOf, stateNumber}
-use Rattle.table_record.specs.declared.Role.{Role}
 use Rattle.table_record.specs.declared.Role.the-variants.{Initiator, Responder}
 use Rattle.table_record.specs.declared.State.{State}
-use Rattle.table_record.specs.declared.State.the-variants.{IResultRespWait, RInvokeRespWait2}
 use Rattle.table_layout.specs.Table.{count, recordAt}
 use Rattle.table_record_ok.specs.OneRecord.{Live}
 use Rattle.table_well_formed.specs.WellFormed.{WellFormed}

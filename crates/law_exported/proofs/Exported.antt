@@ -1,10 +1,10 @@
 -- Demand 3 holds of any calls of the exported functions, and TIDnew is sent as 02, L2, says. Assumes nothing.
 use Prim.Native.Nat.{ℕ}
-use mathlib.Core.Path.{_≡_, refl, sym, ap, subst, _∙_}
+use mathlib.Core.Path.{_≡_, refl, ap, subst, _∙_}
 use mathlib.Core.Bool.{Bool, true, false}
 use mathlib.Core.List.{List, [], _∷_}
 use mathlib.Core.Logic.{_⊎_, inl, inr}
-use lib.ListN.{length, getD}
+use lib.ListN.{length}
 use lib.Dec.{ltb}
 use Rattle.base_lists.specs.Seq.{pick}
 use Rattle.table_record.specs.declared.State.the-variants.{Free}
@@ -14,7 +14,7 @@ use Rattle.table_well_formed.specs.WellFormed.{WellFormed}
 use Rattle.table_salvage.specs.Salvage.{salvageNumber, tableSalvaged, listSalvaged}
 use Rattle.law_salvage.specs.Sentences.{Salvaged}
 use Rattle.law_salvage.proofs.Salvage.{number-0, refused-same, salvage-says, salvage-settings, formed-unchanged}
-use Rattle.table_fresh.specs.Fresh.{freshAnswer, tableAfterFresh}
+use Rattle.table_fresh.specs.Fresh.{tableAfterFresh}
 use Rattle.table_fresh.specs.declared.Fresh.{Fresh}
 use Rattle.table_fresh.specs.declared.Fresh.the-variants as Fresh
 use Rattle.law_fresh_formed.proofs.Formed.{fresh-ok}
@@ -31,7 +31,7 @@ use Rattle.law_demand_3.proofs.Demand.{demand-3-from, demand-3-salvaged}
 use Rattle.law_tidnew.specs.TidNew.{firstDue, Carries}
 use Rattle.law_tidnew.proofs.First.{tidnew-first}
 use Rattle.c_answers.specs.Answers.{answerNumber, answerAfter}
-use Rattle.wtp.specs.Engine.{Called, handed, orSmall, calledBy}
+use Rattle.wtp.specs.Engine.{Called, handed, orSmall}
 use Rattle.law_exported.specs.Session.{Exported, Keeps, entryFor, historyWith, Calls, Session, SalvagedSession}
 
 -- a refused fresh-table call leaves the table

@@ -1,7 +1,7 @@
 -- Any well-formed table satisfies the invariant with its live records as the start: what each says counts as sent and shown. Assumes nothing.
 use Prim.Native.Nat.{ℕ, _≤_, _<_}
 use native.Mathlib.Omega.{arith}
-use mathlib.Core.Path.{_≡_, refl, sym, ap, _∙_}
+use mathlib.Core.Path.{_≡_, refl, ap}
 use mathlib.Core.Bool.{Bool}
 use mathlib.Core.List.{List, []}
 use mathlib.Core.Logic.{_⊎_, inl, inr}
@@ -20,11 +20,11 @@ use Rattle.table_names_ok.specs.Names.{SameName}
 use Rattle.table_well_formed.specs.WellFormed.{WellFormed}
 use Rattle.law_places.proofs.Places.{live-number, live-range}
 use Rattle.law_plans_sound.proofs.Receives.{not-free}
-use Rattle.law_counting.specs.Counting.{Counts, countsIn, Limits}
+use Rattle.law_counting.specs.Counting.{countsIn, Limits}
 use Rattle.law_history.specs.Tally.{Name, tally}
 use Rattle.law_history.specs.Start.{saidBy, startOf}
 use Rattle.law_history.specs.Moves.{nameOf}
-use Rattle.law_invariant.specs.Invariant.{Says, Inv}
+use Rattle.law_invariant.specs.Invariant.{Inv}
 use Rattle.law_invariant.proofs.Names.{same-number}
 use Rattle.law_invariant.proofs.Fresh.{none-limits}
 

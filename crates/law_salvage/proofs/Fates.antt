@@ -3,30 +3,30 @@ use Prim.Native.Nat.{ℕ, _+_, _-_, _≤_, _<_}
 use native.Mathlib.Omega.{arith}
 use native.Mathlib.Nat.{add-zero}
 use borrow.Author.Tests.{eqb-true, eqb-false}
-use mathlib.Core.Path.{_≡_, refl, sym, ap, _∙_}
-use mathlib.Core.Bool.{Bool, true, false}
+use mathlib.Core.Path.{_≡_, refl, sym, _∙_}
+use mathlib.Core.Bool.{true, false}
 use mathlib.Core.List.{List}
 use mathlib.Core.Logic.{_⊎_, inl, inr}
-use lib.ListN.{length, getD}
+use lib.ListN.{getD}
 use lib.Dec.{eqb}
 use Rattle.base_layout.specs.Layout.{recordSize, base}
 use Rattle.base_lists.specs.Seq.{pick}
 use Rattle.base_lists.proofs.StoresAndParts.{told, true-false}
 use Rattle.table_record.specs.Record.{roleOf, stateNumber}
 use Rattle.table_record.specs.declared.Record.{Record}
-use Rattle.table_layout.specs.Table.{count, settingsOf, recordAt}
+use Rattle.table_layout.specs.Table.{settingsOf, recordAt}
 use Rattle.table_finding.specs.Finding.{isFound, namedOf}
 use Rattle.table_finding.specs.Searched.{Called, LowestOf, NoneOf}
 use Rattle.table_finding.specs.declared.Found.{Found}
 use Rattle.table_finding.specs.declared.Found.the-variants.{At, Nothing}
 use Rattle.table_finding.proofs.Searches.{named-found, named-nothing}
-use Rattle.table_record_ok.specs.OneRecord.{Live, LiveOk, FreeOk, RecordOk, recordOk}
+use Rattle.table_record_ok.specs.OneRecord.{Live, LiveOk, RecordOk, recordOk}
 use Rattle.table_record_ok.proofs.RecordTest.{record-to, record-from, live-of}
 use Rattle.law_formed_kept.proofs.InRecord.{record-same}
 use Rattle.table_salvage.specs.Salvage.{reasonOf, sharesName, findingAt, salvagedTo}
 use Rattle.table_salvage.specs.declared.Finding.{Finding}
 use Rattle.table_salvage.specs.declared.Finding.the-variants.{Stays, OutOfRange, NotZero, SharesName}
-use Rattle.law_salvage.specs.Reasons.{OutOfRange as IsOutOfRange, NotZero as IsNotZero, SaysFree}
+use Rattle.law_salvage.specs.Reasons.{OutOfRange as IsOutOfRange, NotZero as IsNotZero}
 use Rattle.law_salvage.specs.Sentences.{SameRecord}
 use Rattle.law_salvage.proofs.Octets.{same-fields, reasonFor, salvaged-settings, not-done}
 

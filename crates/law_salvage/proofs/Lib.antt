@@ -3,4 +3,5 @@ pub mod Fates
 pub mod Outcome
 pub mod Pairs
 pub mod Lists
+pub mod Leaves
 pub mod Salvage

@@ -1,16 +1,16 @@
 -- The 97 words of the list, one by one. Assumes nothing.
-use Prim.Native.Nat.{ℕ, suc, _+_, _-_, _*_, _/_, _≤_, _<_}
+use Prim.Native.Nat.{ℕ, suc, _+_, _-_, _*_, _≤_, _<_}
 use native.Mathlib.Omega.{arith}
 use native.Mathlib.Nat.{zero-add}
-use mathlib.Core.Path.{_≡_, refl, sym, ap, _∙_}
-use mathlib.Core.List.{List, _∷_, _++_}
+use mathlib.Core.Path.{_≡_, _∙_}
+use mathlib.Core.List.{List, _++_}
 use lib.ListN.{length, getD, replicate, length-append, length-replicate, getD-replicate, List·getD-append}
 use lib.Seq.{getD-append-add}
 use Rattle.base_lists.specs.Seq.{put}
 use Rattle.base_lists.proofs.StoresAndParts.{length-put}
 use Rattle.base_octets.proofs.StoredAndRead.{getD-same, getD-after}
 use Rattle.table_salvage.specs.Salvage.{pairsSize, listOf}
-use Rattle.law_salvage.specs.Listed.{howMany, placeIn, reasonIn, Listed, Written}
+use Rattle.law_salvage.specs.Listed.{howMany, placeIn, reasonIn, Written}
 use Rattle.law_salvage.proofs.Pairs.{Pairs}
 
 module _ (list : List ℕ) (room : 97 ≤ length list) (f : ℕ → ℕ) (n : ℕ) (ps : List ℕ) (p : Pairs f n ps) (few : length ps ≤ pairsSize) where

@@ -1,7 +1,7 @@
 -- What salvage leaves of the octets of a table: of the header all, of a place all or none. Assumes nothing.
 use Prim.Native.Nat.{ℕ, zero, suc, _+_, _≤_, _<_}
 use native.Mathlib.Omega.{arith}
-use mathlib.Core.Path.{_≡_, refl, sym, ap, _∙_}
+use mathlib.Core.Path.{_≡_, refl, ap, _∙_}
 use mathlib.Core.Bool.{Bool, true, false}
 use mathlib.Core.List.{List}
 use mathlib.Core.Logic.{_⊎_, inl, inr}
@@ -13,7 +13,7 @@ use Rattle.base_lists.proofs.StoresAndParts.{below-or-last}
 use Rattle.base_octets.specs.Octets.{gets}
 use Rattle.base_octets.proofs.StoredAndRead.{getD-before, getD-after, getD-same}
 use Rattle.table_record.specs.Record.{decoded}
-use Rattle.table_layout.specs.Table.{count, settingsOf, recordAt, clearRecord}
+use Rattle.table_layout.specs.Table.{settingsOf, recordAt, clearRecord}
 use Rattle.table_layout.proofs.Apart.{settings-apart}
 use Rattle.table_header_ok.specs.Header.{HeaderOk}
 use Rattle.law_formed_kept.proofs.InRecord.{header-stands}

@@ -1,16 +1,15 @@
 -- The outcome is well formed, each place that is zeroed has its reason, and none that could stay is zeroed. Assumes nothing.
-use Prim.Native.Nat.{ℕ, _+_, _*_, _≤_, _<_}
+use Prim.Native.Nat.{ℕ, _+_, _≤_, _<_}
 use native.Mathlib.Omega.{arith}
 use native.Mathlib.Nat.{add-zero}
-use borrow.Author.Tests.{eqb-true, eqb-false}
+use borrow.Author.Tests.{eqb-false}
 use mathlib.Core.Path.{_≡_, refl, sym, ap, _∙_}
-use mathlib.Core.Bool.{Bool, true, false}
+use mathlib.Core.Bool.{true, false}
 use mathlib.Core.List.{List}
 use mathlib.Core.Logic.{_⊎_, inl, inr}
 use lib.ListN.{length, getD}
 use lib.Dec.{eqb}
-use Rattle.base_layout.specs.Layout.{headerSize, recordSize, base}
-use Rattle.base_lists.specs.Seq.{pick, put}
+use Rattle.base_layout.specs.Layout.{recordSize, base}
 use Rattle.base_lists.proofs.StoresAndParts.{told, true-false, some-fails, length-put}
 use Rattle.base_octets.specs.Octets.{gets}
 use Rattle.base_octets.proofs.StoredAndRead.{two-sides, getD-same, getD-gets, length-gets}
@@ -21,7 +20,7 @@ use Rattle.table_layout.specs.Table.{count, settingsOf, recordAt}
 use Rattle.table_ranges.specs.Ranges.{zeros}
 use Rattle.table_ranges.proofs.Zeros.{zeros-to}
 use Rattle.table_header_ok.specs.Header.{HeaderOk}
-use Rattle.table_finding.specs.Searched.{Called, LowestOf}
+use Rattle.table_finding.specs.Searched.{LowestOf}
 use Rattle.table_finding.proofs.Tests.{tells-free}
 use Rattle.table_record_ok.specs.OneRecord.{Live, LiveOk, FreeOk, RecordOk}
 use Rattle.table_record_ok.proofs.RecordTest.{free-state, live-of}

@@ -1,5 +1,5 @@
 -- `table_salvage::finding_at` meets its contract. Assumes nothing.
-use mathlib.Core.Path.{refl, sym, _∙_}
+use mathlib.Core.Path.{refl}
 use borrow.Author.Tests.{eq-eqb, ne-eqb}
 use Rattle.table_salvage.specs.Salvage.{findingAt}
 use borrow.Author.Needs.{needs}
