@@ -1,2 +1,3 @@
 pub mod NamesTest
 pub mod Keys
+pub mod Halves

@@ -1,11 +1,10 @@
 -- 01: "no two live records share role, peer and TID": as a sentence, and as a test.
-use Prim.Native.Nat.{ℕ, _+_, _*_, _<_}
+use Prim.Native.Nat.{ℕ, _+_, _*_, _-_, _<_}
 use mathlib.Core.List.{List, [], _∷_}
-use mathlib.Core.Bool.{Bool, true, not}
+use mathlib.Core.Bool.{Bool, true, false, not}
 use mathlib.Core.Path.{_≡_}
 use lib.ListN.{getD}
-use lib.Dec.{leb, eqb}
-use Rattle.base_layout.specs.Layout.{recordsBound}
+use lib.Dec.{leb, ltb, eqb}
 use Rattle.base_lists.specs.Seq.{pick, every}
 use Rattle.table_record.specs.Record.{roleOf, roleNumber, stateNumber}
 use Rattle.table_record.specs.declared.Record.{Record}
@@ -55,6 +54,18 @@ pub record Keyed (r : Record) (k : ℕ) : Type 0 where
   pub peer : r .peer < 256
   pub tid : r .tid < 65536
 
+-- half of the places: their keys are held at a time
+abbrev pub half : ℕ
+half = 24
+
 -- k is 0, or none of the keys
 unfoldable pub newKey : List ℕ → ℕ → Bool
-newKey keys k = pick (eqb k 0) true (every (λ j. not (eqb (getD keys j 0) k)) recordsBound)
+newKey keys k = pick (eqb k 0) true (every (λ j. not (eqb (getD keys j 0) k)) half)
+
+-- record m of those from `from` on clashes with none before it in the half that begins there
+unfoldable pub newInHalf : List ℕ → ℕ → ℕ → Bool
+newInHalf t from m = every (λ j. not (pick (ltb j m) (clash (recordAt t (from + j)) (recordAt t (from + m))) false)) half
+
+-- the test of the first n records against the half that begins at `from`
+unfoldable pub halfOk : List ℕ → ℕ → ℕ → Bool
+halfOk t from n = every (newInHalf t from) (n - from)

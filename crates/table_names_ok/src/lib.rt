@@ -7,10 +7,11 @@ ghost use lib.Dec.{eqb};
 ghost use Rattle.base_layout.specs.Layout.{headerSize, recordSize, recordsBound};
 ghost use Rattle.base_lists.specs.Seq.{pick};
 ghost use Rattle.table_record.specs.Record.{roleNumber};
-ghost use Rattle.table_names_ok.specs.Names.{Keyed, newKey, namesOk};
-use base_layout::RECORDS_BOUND;
+ghost use Rattle.table_names_ok.specs.Names.{Keyed, newKey, halfOk, namesOk};
 use table_record::Record;
 use table_record::Role;
+
+const HALF: usize = base_layout::RECORDS_BOUND / 2;
 
 fn role_number(role: Role) -> u32
     ensures { λ n. ⌜ (n ≡ roleNumber role) × (n < 2) ⌝ }
@@ -54,7 +55,7 @@ fn same(a: u32, b: u32) -> u32
 }
 
 // Gathered over all places without an early exit: four keys are tested at once.
-pub fn new_key(keys: &[u32; RECORDS_BOUND], k: u32) -> bool
+pub fn new_key(keys: &[u32; HALF], k: u32) -> bool
     ensures { λ r. ⌜ r ≡ newKey (now (keys .entry)) k ⌝ }
 {
     if k == 0 {
@@ -62,27 +63,40 @@ pub fn new_key(keys: &[u32; RECORDS_BOUND], k: u32) -> bool
     }
     let mut marks = 0u32;
     let mut j = 0;
-    while j < RECORDS_BOUND {
+    while j < HALF {
         marks = marks | same(keys[j], k);
         j += 1;
     }
     marks == 0
 }
 
-// The keys of the records passed lie at their places, and the others are 0.
-pub fn names_ok(t: &[u8], n: usize) -> bool
-    requires { ⌜ (headerSize + n * recordSize ≤ length (now t)) × (n ≤ recordsBound) ⌝ }
-    ensures { λ r. ⌜ r ≡ namesOk (now (t .entry)) n ⌝ }
+// The keys passed of the half that begins at `from` lie at their places in it, and the others are 0.
+fn half_ok(t: &[u8], from: usize, n: usize) -> bool
+    requires { ⌜ headerSize + n * recordSize ≤ length (now t) ⌝ }
+    ensures { λ r. ⌜ r ≡ halfOk (now (t .entry)) from n ⌝ }
 {
-    let mut keys = [0u32; RECORDS_BOUND];
-    let mut i = 0;
+    let mut keys = [0u32; HALF];
+    let mut i = from;
     while i < n {
         let k = key_of(table_layout::record_at(t, i));
         if !new_key(&keys, k) {
             return false;
         }
-        keys[i] = k;
+        if i - from < HALF {
+            keys[i - from] = k;
+        }
         i += 1;
     }
     true
+}
+
+// In two halves, so that less is kept on the stack.
+pub fn names_ok(t: &[u8], n: usize) -> bool
+    requires { ⌜ (headerSize + n * recordSize ≤ length (now t)) × (n ≤ recordsBound) ⌝ }
+    ensures { λ r. ⌜ r ≡ namesOk (now (t .entry)) n ⌝ }
+{
+    if !half_ok(t, 0, n) {
+        return false;
+    }
+    half_ok(t, HALF, n)
 }

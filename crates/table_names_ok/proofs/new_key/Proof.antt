@@ -6,19 +6,18 @@ use denote.Ref.{now}
 use lib.ListN.{getD}
 use lib.Dec.{eqb}
 use borrow.Author.Tests.{eq-eqb, ne-eqb}
-use Rattle.base_layout.specs.Layout.{recordsBound}
 use Rattle.base_lists.specs.Seq.{every}
 use Rattle.base_lists.proofs.Every.{marks-more, marks-done}
-use Rattle.table_names_ok.specs.Names.{newKey}
+use Rattle.table_names_ok.specs.Names.{half, newKey}
 use borrow.Author.Needs.{needs}
 use Rattle.table_names_ok.proofs.new_key.Statement.{statement}
 use Rattle.table_names_ok.proofs.new_key.Tie as tie
 
 abbrev Inv-loop : tie.InvT-loop
-Inv-loop keys k marks₀ j₀ marks j = (j ≤ recordsBound) × (eqb marks 0 ≡ every (λ m. not (eqb (getD keys m 0) k)) j)
+Inv-loop keys k marks₀ j₀ marks j = (j ≤ half) × (eqb marks 0 ≡ every (λ m. not (eqb (getD keys m 0) k)) j)
 
 abbrev μ-loop : tie.MeasureT-loop
-μ-loop keys k marks₀ j₀ marks j = recordsBound - j
+μ-loop keys k marks₀ j₀ marks j = half - j
 
 loop-holds : tie.Need-loop-holds Inv-loop μ-loop
 unfolding every
@@ -35,7 +34,7 @@ unfolding newKey
 returns-2 c =
     let a = c .before .before .before .args in
     let l = c .before .loop in
-    rw (ne-eqb _ _ (c .before .before .if1 .left)) (marks-done (λ m. not (eqb (getD (now (a .keys)) m 0) (a .k))) recordsBound (l .j) (l .marks) (l .inv .0) (c .loop-test .left) (l .inv .1))
+    rw (ne-eqb _ _ (c .before .before .if1 .left)) (marks-done (λ m. not (eqb (getD (now (a .keys)) m 0) (a .k))) half (l .j) (l .marks) (l .inv .0) (c .loop-test .left) (l .inv .1))
 
 pub new-key-spec : {M : Type 1} → statement M
 unfolding newKey
