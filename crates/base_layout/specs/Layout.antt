@@ -5,15 +5,15 @@ use Prim.Native.Nat.{ℕ, _+_, _*_}
 abbrev pub headerSize : ℕ
 headerSize = 624
 
--- docs/TABLE.md: the octets of a record; 24 of fields, 24 spare, 128 of exit information
+-- docs/TABLE.md: the octets of a record; 25 of fields, 23 spare, 128 of exit information
 abbrev pub recordSize : ℕ
 recordSize = 176
 
 abbrev pub fieldsSize : ℕ
-fieldsSize = 24
+fieldsSize = 25
 
 abbrev pub spareSize : ℕ
-spareSize = 24
+spareSize = 23
 
 -- docs/TABLE.md: where a field of the header begins
 abbrev pub clockAt : ℕ
@@ -89,8 +89,11 @@ lenOffset = 16
 abbrev pub limitOffset : ℕ
 limitOffset = 20
 
+abbrev pub unknownOffset : ℕ
+unknownOffset = 24
+
 abbrev pub spareOffset : ℕ
-spareOffset = 24
+spareOffset = 25
 
 abbrev pub exitOffset : ℕ
 exitOffset = 48
@@ -158,12 +161,23 @@ cellSize = 1024
 abbrev pub outputLeast : ℕ
 outputLeast = 1028
 
+-- the C interface: the words of an answer (02, L4)
+abbrev pub answerSize : ℕ
+answerSize = 40
+
 -- 01, "Events": the highest number of a state, and of a record's flags, four and TIDnew (02, L2)
 abbrev pub stateBound : ℕ
 stateBound = 11
 
 abbrev pub flagsBound : ℕ
 flagsBound = 31
+
+-- WAP-224, 8.4, table 25: the identities of information items are 0 to 15, and 0 to 5 are known (02, L4)
+abbrev pub unknownLeast : ℕ
+unknownLeast = 6
+
+abbrev pub identityBound : ℕ
+identityBound = 15
 
 -- 01: "datagram or PDU 1 to 1,500"
 abbrev pub datagramBound : ℕ

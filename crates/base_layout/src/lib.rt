@@ -1,14 +1,14 @@
 // The sizes, offsets and bounds of the table and of document 01, each once for code; specs/Layout.antt has them for specs, since these are two languages.
 // A contract that names the one holds it equal to the other. docs/TABLE.md shows the octets.
 
-// The header, and a record: 24 octets of fields, 24 spare, 128 of exit information.
+// The header, and a record: 25 octets of fields, 23 spare, 128 of exit information.
 pub const HEADER_SIZE: usize = 624;
 
 pub const RECORD_SIZE: usize = FIELDS_SIZE + SPARE_SIZE + EXIT_BOUND;
 
-pub const FIELDS_SIZE: usize = 24;
+pub const FIELDS_SIZE: usize = 25;
 
-pub const SPARE_SIZE: usize = 24;
+pub const SPARE_SIZE: usize = 23;
 
 // Where a field of the header begins.
 pub const CLOCK_AT: usize = 0;
@@ -56,6 +56,8 @@ pub const LEN_OFFSET: usize = 16;
 
 pub const LIMIT_OFFSET: usize = 20;
 
+pub const UNKNOWN_OFFSET: usize = 24;
+
 pub const SPARE_OFFSET: usize = FIELDS_SIZE;
 
 pub const EXIT_OFFSET: usize = FIELDS_SIZE + SPARE_SIZE;
@@ -88,6 +90,9 @@ pub const CELL_SIZE: usize = 1024;
 
 pub const OUTPUT_LEAST: usize = 1028;
 
+// The C interface: the words of an answer.
+pub const ANSWER_SIZE: usize = 40;
+
 // The octets of a table of 1 record, and of as many as there can be.
 pub const TABLE_LEAST: usize = HEADER_SIZE + RECORD_SIZE;
 
@@ -97,6 +102,11 @@ pub const TABLE_MOST: usize = HEADER_SIZE + RECORDS_BOUND * RECORD_SIZE;
 pub const STATE_BOUND: u8 = 11;
 
 pub const FLAGS_BOUND: u8 = 31;
+
+// WAP-224, 8.4, table 25: the identities of information items are 0 to 15, and 0 to 5 are known (02, L4).
+pub const UNKNOWN_LEAST: u8 = 6;
+
+pub const IDENTITY_BOUND: u8 = 15;
 
 // 01: "datagram or PDU 1 to 1,500".
 pub const DATAGRAM_BOUND: usize = 1500;

@@ -26,6 +26,25 @@ pub put-nil {ℓ} : {A : Type ℓ} (l : List A) (i : ℕ) → put l i [] ≡ l
 unfolding put
 put-nil l i = refl
 
+set-swap {ℓ} : {A : Type ℓ} (l : List A) (i j : ℕ) (x y : A) → i < j → set (set l j y) i x ≡ set (set l i x) j y
+set-swap [] i j x y h = refl
+set-swap (a ∷ l) zero zero x y h = absurd (omega arith)
+set-swap (a ∷ l) zero (suc j) x y h = refl
+set-swap (a ∷ l) (suc i) zero x y h = absurd (omega arith)
+set-swap (a ∷ l) (suc i) (suc j) x y h = ap (λ k. a ∷ k) (set-swap l i j x y (omega arith))
+
+set-put {ℓ} : {A : Type ℓ} (ys l : List A) (i j : ℕ) (x : A) → i < j → set (put l j ys) i x ≡ put (set l i x) j ys
+unfolding put
+set-put [] l i j x h = refl
+set-put (y ∷ ys) l i j x h = set-put ys (set l j y) i (suc j) x (omega arith) ∙ ap (λ k. put k (suc j) ys) (set-swap l i j x y h)
+
+-- of two stores apart from each other either may come first
+pub put-swap {ℓ} : {A : Type ℓ} (xs ys l : List A) (i j : ℕ) → i + length xs ≤ j → put (put l j ys) i xs ≡ put (put l i xs) j ys
+unfolding put
+put-swap [] ys l i j h = refl
+put-swap (x ∷ xs) ys l i j h =
+    ap (λ k. put k (suc i) xs) (set-put ys l i j x (omega arith)) ∙ put-swap xs ys (set l i x) (suc i) j (omega arith)
+
 -- what is written from the start stands there, and the rest is as it was
 pub put-front {ℓ} : {A : Type ℓ} (l w : List A) → length w ≤ length l → put l 0 w ≡ w ++ drop (length w) l
 unfolding put

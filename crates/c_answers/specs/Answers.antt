@@ -1,9 +1,11 @@
--- The C interface's result and 32 words of an answer (01, "Numbers given back": "at most one PDU", "at most two indications, in order").
+-- The C interface's result and the words of an answer, 32 and 8 more (01, "Numbers given back": "at most one PDU", "at most two indications, in order").
 use Prim.Native.Nat.{ℕ, _+_}
 use mathlib.Core.Path.{_≡_}
 use mathlib.Core.List.{List, [], _∷_, _++_}
-use Rattle.base_lists.specs.Seq.{put}
+use lib.Dec.{eqb}
+use Rattle.base_lists.specs.Seq.{pick, put}
 use Rattle.base_numbers.specs.Numbers.{numberOf}
+use Rattle.codec_items.specs.declared.Unknown.{Unknown}
 use Rattle.table_record.specs.Record.{roleNumber}
 use Rattle.step_shown.specs.declared.Shown.{Shown}
 use Rattle.step_shown.specs.declared.Shown.the-variants as Shown
@@ -62,10 +64,18 @@ unfoldable pub answerNumber : Answer → ℕ
 answerNumber (Refused r) = numberOf r
 answerNumber (Taken sent told first second) = 0
 
--- 01: "A refusal gives only its number"; the C interface: "An accepted call writes the first 32 .. words and leaves the rest"
+-- 01: "A refusal gives only its number"; the C interface: an accepted call writes words 0 to 31
 unfoldable pub answerAfter : Answer → List ℕ → List ℕ
 answerAfter (Refused r) words = words
 answerAfter (Taken sent told first second) words = put words 0 (answerWords sent told first second)
+
+-- the C interface: word 34 and 35, "identity, and place of the first octet, of the first item in the PDU that is not known; 0, 0 none"; 32, 33 and 36 to 39 are 0
+unfoldable pub moreWords : Unknown → List ℕ
+moreWords u = 0 ∷ 0 ∷ u .identity ∷ u .place ∷ 0 ∷ 0 ∷ 0 ∷ 0 ∷ []
+
+-- the C interface: "an accepted call writes the first 40": words 32 to 39, where the result is 0
+unfoldable pub toldAfter : (result : ℕ) → List ℕ → (more : List ℕ) → List ℕ
+toldAfter result words more = pick (eqb result 0) (put words 32 more) words
 
 -- the same answer to a caller: octets sent, TID, record fired, and what is shown
 pub record SameAnswer (sent : ℕ) (told : Told) (first second : Shown) (sent₁ : ℕ) (told₁ : Told) (first₁ second₁ : Shown) : Type 0 where

@@ -1,14 +1,15 @@
-// The 32 words that the C interface has for the answer of an engine call.
+// The words that the C interface has for the answer of an engine call: 32 of the turn, and 8 that the requests of document 02 added.
 ghost use mathlib.Core.Path.{_≡_};
 ghost use mathlib.Core.List.{[], _∷_};
 ghost use Prim.Native.Nat.{_+_, _≤_, _<_};
 ghost use lib.ListN.{length};
-ghost use Rattle.base_layout.specs.Layout.{recordsBound};
+ghost use Rattle.base_layout.specs.Layout.{recordsBound, answerSize};
 ghost use Rattle.base_lists.specs.Seq.{put};
 ghost use Rattle.step_shown.specs.Kinds.{byIndication};
 ghost use Rattle.step_shown.specs.Shows.{shownOf};
 ghost use Rattle.step_shown.specs.Words.{shownWords};
-ghost use Rattle.c_answers.specs.Answers.{toldTid, toldFired, recordWords, answerWords, turnWords};
+ghost use Rattle.c_answers.specs.Answers.{toldTid, toldFired, recordWords, answerWords, turnWords, moreWords, toldAfter};
+use codec_items::Unknown;
 use row_columns::Indication;
 use row_turns::Turn;
 use step_plan::Call;
@@ -100,6 +101,18 @@ fn store_answer(
     store_shown(&mut *answer, 16, second, c);
     let record = record_words(told);
     base_lists::store_words(answer, 28, &record);
+}
+
+// Words 32 to 39 of an accepted call, in which the first unknown item of its PDU is told; gives the call's result on.
+pub fn tell(answer: &mut [u64], result: u64, item: Unknown) -> u64
+    requires { ⌜ answerSize ≤ length (now answer) ⌝ }
+    ensures { λ r. ⌜ (r ≡ result) × (now (answer .exit) ≡ toldAfter result (now (answer .entry)) (moreWords item)) ⌝ }
+{
+    if result == 0 {
+        let more = [0, 0, item.identity as u64, item.place as u64, 0, 0, 0, 0];
+        base_lists::store_words(answer, 32, &more);
+    }
+    result
 }
 
 // Gives the words of a turn that sent this much.

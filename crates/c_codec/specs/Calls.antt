@@ -1,8 +1,9 @@
 -- The C interface of the codec: results, and what the lent words and octets then hold.
-use Prim.Native.Nat.{ℕ}
+use Prim.Native.Nat.{ℕ, _-_}
 use mathlib.Core.List.{List, [], _∷_}
 use lib.ListN.{length, replicate}
 use lib.Dec.{ltb}
+use Rattle.base_layout.specs.Layout.{answerSize}
 use Rattle.base_lists.specs.Seq.{pick, put}
 use Rattle.base_numbers.specs.Numbers.{numberOf, codeOf}
 use Rattle.base_numbers.specs.declared.Refusal.the-variants.{WrongSize}
@@ -33,7 +34,7 @@ kindNumber (Nack c n l) = 0
 kindNumber (Wrong d) = codeOf d
 kindNumber (Refused r) = numberOf r
 
--- the C interface: "`answer` has at least 32 words, `fields` at least 88, `part` at least 3, else number 1": what a call gives with n words of `most`
+-- the C interface: "`answer` has at least 40 words, `fields` at least 88, `part` at least 3, else number 1": what a call gives with n words of `most`
 abbrev pub orSize {ℓ} : {A : Type ℓ} → ℕ → ℕ → A → A → A
 orSize most n refused else = pick (ltb n most) refused else
 
@@ -45,9 +46,9 @@ readNumber s fields = orSize 88 (length fields) (numberOf WrongSize) (kindNumber
 unfoldable pub fieldsAfter : List ℕ → List ℕ → List ℕ
 fieldsAfter s fields = orSize 88 (length fields) fields (pick (soundOf (pduOf s .kind)) (put fields 0 (wordsOf (pduOf s))) fields)
 
--- "Word 0 of the answer is the .. length, the other 31 are 0"
+-- "Word 0 of the answer is the .. length", the other 39 are 0
 unfoldable pub lengthAnswer : ℕ → List ℕ
-lengthAnswer n = n ∷ replicate 31 0
+lengthAnswer n = n ∷ replicate (answerSize - 1) 0
 
 -- wtp_write: its result, by the codec's answer, and the words of its answer
 abbrev pub writtenNumber : Written → ℕ
@@ -61,13 +62,13 @@ writtenWords (Written.Malformed d) answer = answer
 writtenWords (Written.Refused r) answer = answer
 
 unfoldable pub writeNumber : List ℕ → List ℕ → List ℕ → List ℕ → ℕ
-writeNumber fields bytes out answer = orSize 32 (length answer) (numberOf WrongSize) (writtenNumber (writtenAnswer fields bytes out))
+writeNumber fields bytes out answer = orSize answerSize (length answer) (numberOf WrongSize) (writtenNumber (writtenAnswer fields bytes out))
 
 unfoldable pub writeOutput : List ℕ → List ℕ → List ℕ → List ℕ → List ℕ
-writeOutput fields bytes out answer = orSize 32 (length answer) out (written fields bytes out)
+writeOutput fields bytes out answer = orSize answerSize (length answer) out (written fields bytes out)
 
 unfoldable pub writeAnswer : List ℕ → List ℕ → List ℕ → List ℕ → List ℕ
-writeAnswer fields bytes out answer = orSize 32 (length answer) answer (writtenWords (writtenAnswer fields bytes out) answer)
+writeAnswer fields bytes out answer = orSize answerSize (length answer) answer (writtenWords (writtenAnswer fields bytes out) answer)
 
 -- wtp_separate: its result, by the codec's answer
 abbrev pub separationNumber : Separation → ℕ
@@ -95,10 +96,10 @@ joiningAnswer (Joining.Length n) answer = put answer 0 (lengthAnswer n)
 joiningAnswer (Joining.Refused r) answer = answer
 
 unfoldable pub joinNumber : List ℕ → List ℕ → List ℕ → List ℕ → ℕ
-joinNumber bytes lengths out answer = orSize 32 (length answer) (numberOf WrongSize) (joiningNumber (joinedAnswer bytes lengths out))
+joinNumber bytes lengths out answer = orSize answerSize (length answer) (numberOf WrongSize) (joiningNumber (joinedAnswer bytes lengths out))
 
 unfoldable pub joinOutput : List ℕ → List ℕ → List ℕ → List ℕ → List ℕ
-joinOutput bytes lengths out answer = orSize 32 (length answer) out (joined bytes lengths out)
+joinOutput bytes lengths out answer = orSize answerSize (length answer) out (joined bytes lengths out)
 
 unfoldable pub joinAnswer : List ℕ → List ℕ → List ℕ → List ℕ → List ℕ
-joinAnswer bytes lengths out answer = orSize 32 (length answer) answer (joiningAnswer (joinedAnswer bytes lengths out) answer)
+joinAnswer bytes lengths out answer = orSize answerSize (length answer) answer (joiningAnswer (joinedAnswer bytes lengths out) answer)

@@ -2,15 +2,19 @@
 ghost use mathlib.Core.Path.{_≡_};
 ghost use Prim.Native.Nat.{_≤_};
 ghost use lib.ListN.{length};
+ghost use Rattle.base_layout.specs.Layout.{answerSize};
 ghost use Rattle.base_lists.specs.Seq.{put};
 ghost use Rattle.table_fresh.specs.Fresh.{freshAnswer, freshNumber, tableAfterFresh};
 ghost use Rattle.c_codec.specs.Calls.{kindNumber, readNumber, fieldsAfter, writeNumber, writeOutput, writeAnswer, separateNumber, partAfter, joinNumber, joinOutput, joinAnswer, lengthAnswer};
+use base_layout::ANSWER_SIZE;
 use base_numbers::Refusal;
 use codec_joining::Joining;
 use codec_pdu::Kind;
 use codec_separation::Separation;
 use codec_writing::Written;
 use table_fresh::Fresh;
+
+const HALF: usize = ANSWER_SIZE / 2;
 
 // Makes a table fresh.
 pub fn make_fresh(table: &mut [u8], settings: &[u64], first_tid: u64) -> u64
@@ -55,12 +59,14 @@ pub fn read(octets: &[u8], fields: &mut [u64]) -> u64
     number_of(kind)
 }
 
-// An answer whose first word is a length, the other 31 zero.
+// An answer whose first word is a length, the others zero: in two stores, which the compiler writes out, since a call to clear so many words takes of the stack.
 fn store_length(answer: &mut [u64], n: usize)
-    requires { ⌜ 32 ≤ length (now answer) ⌝ }
+    requires { ⌜ answerSize ≤ length (now answer) ⌝ }
     ensures { λ _. ⌜ now (answer .exit) ≡ put (now (answer .entry)) 0 (lengthAnswer n) ⌝ }
 {
-    let mut words = [0u64; 32];
+    let zeros = [0u64; HALF];
+    base_lists::store_words(&mut *answer, HALF, &zeros);
+    let mut words = [0u64; HALF];
     words[0] = n as u64;
     base_lists::store_words(answer, 0, &words);
 }
@@ -69,7 +75,7 @@ fn store_length(answer: &mut [u64], n: usize)
 pub fn write(fields: &[u64], bytes: &[u8], out: &mut [u8], answer: &mut [u64]) -> u64
     ensures { λ r. ⌜ (r ≡ writeNumber (now (fields .entry)) (now (bytes .entry)) (now (out .entry)) (now (answer .entry))) × (now (out .exit) ≡ writeOutput (now (fields .entry)) (now (bytes .entry)) (now (out .entry)) (now (answer .entry))) × (now (answer .exit) ≡ writeAnswer (now (fields .entry)) (now (bytes .entry)) (now (out .entry)) (now (answer .entry))) ⌝ }
 {
-    if answer.len() < 32 {
+    if answer.len() < ANSWER_SIZE {
         return base_numbers::number(Refusal::WrongSize);
     }
     match codec_writing::write(fields, bytes, out) {
@@ -103,7 +109,7 @@ pub fn separate(datagram: &[u8], k: u64, part: &mut [u64]) -> u64
 pub fn join(bytes: &[u8], lengths: &[u64], out: &mut [u8], answer: &mut [u64]) -> u64
     ensures { λ r. ⌜ (r ≡ joinNumber (now (bytes .entry)) (now (lengths .entry)) (now (out .entry)) (now (answer .entry))) × (now (out .exit) ≡ joinOutput (now (bytes .entry)) (now (lengths .entry)) (now (out .entry)) (now (answer .entry))) × (now (answer .exit) ≡ joinAnswer (now (bytes .entry)) (now (lengths .entry)) (now (out .entry)) (now (answer .entry))) ⌝ }
 {
-    if answer.len() < 32 {
+    if answer.len() < ANSWER_SIZE {
         return base_numbers::number(Refusal::WrongSize);
     }
     match codec_joining::join(bytes, lengths, out) {

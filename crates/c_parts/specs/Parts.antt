@@ -3,6 +3,7 @@ use Prim.Native.Nat.{ℕ, _+_, _*_}
 use mathlib.Core.List.{List}
 use lib.ListN.{length, getD}
 use lib.Dec.{ltb, eqb}
+use Rattle.base_layout.specs.Layout.{answerSize}
 use Rattle.base_lists.specs.Seq.{pick, put, part}
 use Rattle.base_numbers.specs.Numbers.{numberOf}
 use Rattle.base_numbers.specs.declared.Refusal.the-variants.{WrongSize, WrongLength}
@@ -59,13 +60,13 @@ dataSaid datagram store answer k = dataOf datagram store (placeSaid answer (word
 -- wtp_data: its result; an answer has two indications
 unfoldable pub dataNumber : List ℕ → List ℕ → List ℕ → ℕ → List ℕ → ℕ
 dataNumber datagram store answer k out =
-    orSize 32 (length answer) (numberOf WrongSize)
+    orSize answerSize (length answer) (numberOf WrongSize)
     (pick (ltb 1 k) (numberOf WrongLength)
     (copyNumber (dataSaid datagram store answer k) (placeSaid answer (wordsFrom k) .len) out))
 
 -- wtp_data: the output
 unfoldable pub dataOutput : List ℕ → List ℕ → List ℕ → ℕ → List ℕ → List ℕ
 dataOutput datagram store answer k out =
-    orSize 32 (length answer) out
+    orSize answerSize (length answer) out
     (pick (ltb 1 k) out
     (copyOutput (dataSaid datagram store answer k) (placeSaid answer (wordsFrom k) .len) out))

@@ -76,7 +76,7 @@ pub fn shown_data<'a>(
 ) -> u64
     ensures { λ r. ⌜ (r ≡ dataNumber (now (datagram .entry)) (now (store .entry)) (now (answer .entry)) k (now (out .entry))) × (now (out .exit) ≡ dataOutput (now (datagram .entry)) (now (store .entry)) (now (answer .entry)) k (now (out .entry))) ⌝ }
 {
-    if answer.len() < 32 {
+    if answer.len() < base_layout::ANSWER_SIZE {
         return base_numbers::number(Refusal::WrongSize);
     }
     if 1 < k {

@@ -106,7 +106,7 @@ primitiveTests t store output p = entryTests t store output p ++ foundTests t (f
 
 -- a primitive brings its time, an abort's reason, the lengths of its data and its exit information
 unfoldable pub primitiveGiven : Primitive → Given
-primitiveGiven p = record { time = p .time; kind = 0; reason = p .reason; len = p .len; «exit_len» = p .«exit_len» }
+primitiveGiven p = record { time = p .time; kind = 0; reason = p .reason; len = p .len; «exit_len» = p .«exit_len»; unknown = 0 }
 
 -- its message is all of its data
 unfoldable pub primitiveCall : Primitive → Call

@@ -171,6 +171,7 @@ pub fn primitive_given(p: Primitive) -> Given
         reason: p.reason,
         len: p.len as u32,
         exit_len: p.exit_len as u8,
+        unknown: 0,
     }
 }
 

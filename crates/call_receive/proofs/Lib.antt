@@ -6,3 +6,4 @@ pub mod Dispatch
 pub mod KeptData
 pub mod Ways
 pub mod Turns
+pub mod Identity

@@ -4,6 +4,7 @@ use native.Mathlib.Omega.{arith}
 use mathlib.Core.Path.{_≡_, refl, sym, _∙_}
 use mathlib.Core.List.{List}
 use Rattle.base_layout.specs.Layout.{timeBound, tidBound}
+use Rattle.codec_pdu.specs.Pdu.{unknownOf}
 use Rattle.codec_pdu.specs.declared.Pdu.{Pdu}
 use Rattle.codec_reading.specs.Read.{pduOf}
 use Rattle.table_record.specs.declared.Role.{Role}
@@ -38,12 +39,12 @@ Sound t time step Arrives.Nobody = step ≡ idleStep time
 Sound t time step (Arrives.Turns coming g c) = (step ≡ comingStep t coming g c) × InRange t coming g
 
 module _ (t : List ℕ) (time : ℕ) (bound : time ≤ timeBound) where
-  taken-sound : (place : ℕ) (p : Pdu) → Whole t place → Sound t time (takenStep t place time p) (takenTurn t place time p)
+  taken-sound : (place : ℕ) (p : Pdu) → Whole t place → Sound t time (takenStep t place time p) (takenTurn t place time p (unknownOf p .identity))
   unfolding takenStep takenTurn takenGiven
   taken-sound place p w =
       (live-is t place (eventOf (p .kind)) (takenGiven time p) (takenCall p), live-in-range t place (rowAt t place (eventOf (p .kind))) (takenGiven time p) (w .tid) (w .small) bound)
 
-  unmatched-sound : WellFormed t → (role : Role) (peer tid : ℕ) (s : List ℕ) (p : Pdu) → tid ≤ tidBound → Sound t time (unmatchedStep t role peer tid time s p) (unmatchedTurn t role peer tid time s p)
+  unmatched-sound : WellFormed t → (role : Role) (peer tid : ℕ) (s : List ℕ) (p : Pdu) → tid ≤ tidBound → Sound t time (unmatchedStep t role peer tid time s p) (unmatchedTurn t role peer tid time s p (unknownOf p .identity))
   unfolding unmatchedStep unmatchedTurn openedStep openedTurn openedGiven arriverOf
   unmatched-sound w role peer tid s p below =
       let h = arriverOf (placeFor (freeOf t (count t))) role peer tid (p .kind) in

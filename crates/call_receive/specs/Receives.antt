@@ -8,7 +8,7 @@ use lib.Dec.{ltb, eqb}
 use Rattle.base_layout.specs.Layout.{peers, cellSize, datagramBound}
 use Rattle.base_lists.specs.Seq.{pick}
 use Rattle.base_numbers.specs.declared.Refusal.the-variants.{WrongLength}
-use Rattle.codec_pdu.specs.Pdu.{infoOf}
+use Rattle.codec_pdu.specs.Pdu.{infoOf, unknownOf}
 use Rattle.codec_pdu.specs.declared.Kind.{Kind}
 use Rattle.codec_pdu.specs.declared.Pdu.{Pdu}
 use Rattle.codec_reading.specs.Read.{pduOf}
@@ -52,9 +52,12 @@ receiveTests t store output time peer len =
 
 -- ---- a PDU for a live record
 
--- what it brings: the time, and an Abort's type and reason
+-- what it brings: the time, an Abort's type and reason, and 02, L4, the identity of its first unknown item
+abbrev pub takenWith : ℕ → Pdu → (identity : ℕ) → Given
+takenWith time p identity = record { time = time; kind = causeOf (p .kind) .«abort_type»; reason = causeOf (p .kind) .reason; len = 0; «exit_len» = 0; unknown = identity }
+
 unfoldable pub takenGiven : ℕ → Pdu → Given
-takenGiven time p = record { time = time; kind = causeOf (p .kind) .«abort_type»; reason = causeOf (p .kind) .reason; len = 0; «exit_len» = 0 }
+takenGiven time p = takenWith time p (unknownOf p .identity)
 
 -- the user data of a PDU, as a part of it
 unfoldable pub userPart : Pdu → Part
@@ -91,9 +94,12 @@ arriverOf place role peer tid kind = record {
   len = 0;
 }
 
--- what it brings: the time and the length of the data to keep
+-- what it brings: the time, the length of the data to keep, and 02, L4, the identity of its first unknown item
+abbrev pub openedWith : ℕ → Pdu → (identity : ℕ) → Given
+openedWith time p identity = record { time = time; kind = 0; reason = 0; len = keptPart p .len; «exit_len» = 0; unknown = identity }
+
 unfoldable pub openedGiven : ℕ → Pdu → Given
-openedGiven time p = record { time = time; kind = 0; reason = 0; len = keptPart p .len; «exit_len» = 0 }
+openedGiven time p = openedWith time p (unknownOf p .identity)
 
 unfoldable pub openedCall : Pdu → Call
 openedCall p = record { message = keptPart p; info = noPart; user = userPart p; tells = Nothing }
@@ -133,19 +139,19 @@ receivePlan t store output time peer s = planBy (lowest (receiveTests t store ou
 -- ---- what the code takes apart: the turn that a PDU brings
 
 -- to a live record, or as an opening
-unfoldable pub takenTurn : List ℕ → ℕ → ℕ → Pdu → Arrives
-takenTurn t place time p = Arrives.Turns (Coming.Live place (rowAt t place (eventOf (p .kind)))) (takenGiven time p) (takenCall p)
+unfoldable pub takenTurn : List ℕ → ℕ → ℕ → Pdu → (identity : ℕ) → Arrives
+takenTurn t place time p identity = Arrives.Turns (Coming.Live place (rowAt t place (eventOf (p .kind)))) (takenWith time p identity) (takenCall p)
 
-unfoldable pub openedTurn : Opening → Holder → ℕ → Pdu → Arrives
-openedTurn opening h time p = Arrives.Turns (Coming.Opens opening h Unchanged) (openedGiven time p) (openedCall p)
+unfoldable pub openedTurn : Opening → Holder → ℕ → Pdu → (identity : ℕ) → Arrives
+openedTurn opening h time p identity = Arrives.Turns (Coming.Opens opening h Unchanged) (openedWith time p identity) (openedCall p)
 
-unfoldable pub unmatchedTurn : List ℕ → Role → ℕ → ℕ → ℕ → List ℕ → Pdu → Arrives
-unmatchedTurn t role peer tid time s p =
-    openedTurn (arrivalOpening t peer tid s p) (arriverOf (placeFor (freeOf t (count t))) role peer tid (p .kind)) time p
+unfoldable pub unmatchedTurn : List ℕ → Role → ℕ → ℕ → ℕ → List ℕ → Pdu → (identity : ℕ) → Arrives
+unmatchedTurn t role peer tid time s p identity =
+    openedTurn (arrivalOpening t peer tid s p) (arriverOf (placeFor (freeOf t (count t))) role peer tid (p .kind)) time p identity
 
 abbrev pub turnBy : Found → List ℕ → Role → ℕ → ℕ → ℕ → List ℕ → Arrives
-turnBy (Found.At i) t role peer tid time s = takenTurn t i time (pduOf s)
-turnBy Found.Nothing t role peer tid time s = unmatchedTurn t role peer tid time s (pduOf s)
+turnBy (Found.At i) t role peer tid time s = takenTurn t i time (pduOf s) (unknownOf (pduOf s) .identity)
+turnBy Found.Nothing t role peer tid time s = unmatchedTurn t role peer tid time s (pduOf s) (unknownOf (pduOf s) .identity)
 
 unfoldable pub namingTurn : List ℕ → Role → ℕ → ℕ → ℕ → List ℕ → Arrives
 namingTurn t role peer tid time s = turnBy (namedOf t (count t) role peer tid) t role peer tid time s

@@ -69,7 +69,7 @@ pub fn receive_refusal(
 // A PDU that comes to the live record at a place.
 fn taken(t: &[u8], place: usize, time: u64, b: Brief) -> Arrives
     requires { ⌜ headerSize + place * recordSize + recordSize ≤ length (now t) ⌝ }
-    ensures { λ r. ⌜ r ≡ takenTurn (now (t .entry)) place time (asPdu b) ⌝ }
+    ensures { λ r. ⌜ r ≡ takenTurn (now (t .entry)) place time (asPdu b) (b .unknown .identity) ⌝ }
 {
     let kind = b.kind;
     let event = step_arrivals::event_of(kind);
@@ -77,12 +77,14 @@ fn taken(t: &[u8], place: usize, time: u64, b: Brief) -> Arrives
     let info = b.info;
     let none = step_plan::no_part();
     let row = step_live::row_at(t, place, event);
+    let unknown = b.unknown;
     let g = Given {
         time: time,
         kind: cause.abort_type,
         reason: cause.reason,
         len: 0,
         exit_len: 0,
+        unknown: unknown.identity,
     };
     let c = Call {
         message: none,
@@ -140,16 +142,18 @@ fn arriver(place: usize, role: Role, peer: u8, tid: u16, kind: Kind) -> Holder
 
 // An opening for this PDU.
 fn opened_by(opening: Opening, h: Holder, time: u64, b: Brief) -> Arrives
-    ensures { λ r. ⌜ r ≡ openedTurn opening h time (asPdu b) ⌝ }
+    ensures { λ r. ⌜ r ≡ openedTurn opening h time (asPdu b) (b .unknown .identity) ⌝ }
 {
     let message = kept_part(b);
     let none = step_plan::no_part();
+    let unknown = b.unknown;
     let g = Given {
         time: time,
         kind: 0,
         reason: 0,
         len: message.len as u32,
         exit_len: 0,
+        unknown: unknown.identity,
     };
     let c = Call {
         message: message,
@@ -166,7 +170,7 @@ fn opened_by(opening: Opening, h: Holder, time: u64, b: Brief) -> Arrives
 // A PDU without a live record.
 fn unmatched(t: &[u8], role: Role, peer: u8, tid: u16, time: u64, s: &[u8], b: Brief) -> Arrives
     requires { ⌜ WellFormed (now t) ⌝ }
-    ensures { λ r. ⌜ r ≡ unmatchedTurn (now (t .entry)) role peer tid time (now (s .entry)) (asPdu b) ⌝ }
+    ensures { λ r. ⌜ r ≡ unmatchedTurn (now (t .entry)) role peer tid time (now (s .entry)) (asPdu b) (b .unknown .identity) ⌝ }
 {
     let kind = b.kind;
     let free = table_finding::free(t, table_layout::records(t));

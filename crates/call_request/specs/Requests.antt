@@ -84,7 +84,7 @@ countedBy t q = Set (nextTid (genTidOf t)) (dueAfter (q .class % 256) (tidnewDue
 
 -- a request brings its time and the length of its data
 unfoldable pub requestGiven : Request → Given
-requestGiven q = record { time = q .time; kind = 0; reason = 0; len = q .len; «exit_len» = 0 }
+requestGiven q = record { time = q .time; kind = 0; reason = 0; len = q .len; «exit_len» = 0; unknown = 0 }
 
 -- its message is all of its data; the answer tells its TID
 unfoldable pub requestCall : Request → Call

@@ -123,6 +123,7 @@ pub fn request_given(q: Request) -> Given
         reason: 0,
         len: q.len as u32,
         exit_len: 0,
+        unknown: 0,
     }
 }
 

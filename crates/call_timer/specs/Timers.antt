@@ -23,7 +23,7 @@ timerTests t store output time = firstTests t store output time
 
 -- a firing brings its time alone
 unfoldable pub firedGiven : ℕ → Given
-firedGiven time = record { time = time; kind = 0; reason = 0; len = 0; «exit_len» = 0 }
+firedGiven time = record { time = time; kind = 0; reason = 0; len = 0; «exit_len» = 0; unknown = 0 }
 
 -- the answer names the record, since the caller must know to whom the PDU goes
 unfoldable pub firedCall : Call

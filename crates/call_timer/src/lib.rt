@@ -28,6 +28,7 @@ pub fn fired_given(time: u64) -> Given
         reason: 0,
         len: 0,
         exit_len: 0,
+        unknown: 0,
     }
 }
 

@@ -19,7 +19,7 @@ fn print_octet(n: u8) {
 // What stands before a PDU of 127 octets in a datagram, and before one of 128.
 fn print_lengths() {
     let mut out = [0u8; 1500];
-    let mut answer = [0u64; 32];
+    let mut answer = [0u64; 40];
     wtp::wtp_join(&[9u8; 255], &[127u64, 128], &mut out, &mut answer);
     print_octet(out[1]);
     end_line();
@@ -72,7 +72,7 @@ fn make_fresh(table: &mut [u8]) {
 
 fn request(table: &mut [u8], store: &mut [u8], data: &[u8]) -> u64 {
     let mut out = [0u8; 1028];
-    let mut answer = [0u64; 32];
+    let mut answer = [0u64; 40];
     wtp::wtp_request(table, store, &mut out, &mut answer, 0, 5, 1, 0, data)
 }
 
@@ -93,7 +93,7 @@ fn print_requests(table: &mut [u8], store: &mut [u8]) {
 // Whether a record fired when its interval was over, and the octets that it then sent.
 fn print_timer(table: &mut [u8], store: &mut [u8]) {
     let mut out = [0u8; 1028];
-    let mut answer = [0u64; 32];
+    let mut answer = [0u64; 40];
     wtp::wtp_timer(table, store, &mut out, &mut answer, 1000);
     io::print_decimal(STDOUT_FILENO, answer[3]);
     end_line();

@@ -16,10 +16,13 @@ use Rattle.codec_items.specs.declared.Got.{Got}
 use Rattle.codec_items.specs.declared.Got.the-variants.{One, Cut}
 use Rattle.codec_items.specs.declared.Item.{Item}
 use Rattle.codec_items.specs.declared.Items.{Items}
+use Rattle.codec_items.specs.declared.Sought.{Sought}
+use Rattle.codec_items.specs.declared.Sought.the-variants.{InfoItem, UnknownItem}
 use Rattle.codec_items.specs.Items.{itemAt, noItem, noItems, walkFrom, afterItem}
-use Rattle.codec_items.specs.Info.{noInfo, itemIn, dataOf, infoFrom}
-use Rattle.codec_items.specs.Found.{endFrom, endAfter, itemsFrom, listAfter, infoPlace, placeAfter, infoIn}
-use Rattle.codec_items.proofs.Forms.{item-inside}
+use Rattle.codec_items.specs.Info.{soughtBy, noInfo, itemIn, dataOf, firstFrom, infoFrom}
+use Rattle.codec_items.specs.Unknown.{noUnknown, namedBy, unknownFrom}
+use Rattle.codec_items.specs.Found.{endFrom, endAfter, itemsFrom, listAfter, placeFrom, placeAfter, infoIn, unknownIn}
+use Rattle.codec_items.proofs.Forms.{item-inside, first-octet}
 
 -- a walk after those of `read`, with k still permitted, that finds these items up to `end`
 pub record Whole (k : ℕ) (read items : List Item) (end : ℕ) (w : Items) : Type 0 where
@@ -74,43 +77,65 @@ module _ (s : List ℕ) where
       go ih (One it true next) = omega (arith, ih next)
       go ih (One it false next) = omega arith
 
-  -- the search in a list begins anew behind its first item
-  behind : (n : ℕ) (it : Item) (l : List Item) (at : ℕ) → infoFrom n (it ∷ l) (suc at) ≡ infoFrom n l at
-  unfolding infoFrom
-  behind zero it l at = refl
-  behind (suc n) it l at =
-      let on : suc at + 1 ≡ suc (at + 1) = omega arith in
-      ap (pick (eqb (itemIn l at .identity) 1) (dataOf (itemIn l at))) (ap (infoFrom n (it ∷ l)) on ∙ behind n it l (at + 1))
+  -- what is told of the first item sought: `said` tells it from the item's place, and nothing at 0
+  module _ {A : Type 0} (sought : Sought) (tell : Item → A) (none : A) (said : ℕ → A) (nothing : said 0 ≡ none)
+      (here : (at : ℕ) (it : Item) (con : Bool) (next : ℕ) → 1 ≤ at → itemAt s at ≡ One it con next → tell it ≡ said at) where
+    abbrev first : ℕ → List Item → ℕ → A
+    first = firstFrom sought tell none
 
-  info-over : (k at : ℕ) (rest : List Item) → 1 ≤ at → infoFrom (length (itemsFrom k s at)) (itemsFrom k s at ++ rest) 0 ≡ infoIn s (infoPlace k s at)
-  unfolding itemsFrom infoFrom infoPlace infoIn
-  info-over zero at rest a = refl
-  info-over (suc k) at rest a = go (λ (next : ℕ) (h : 1 ≤ next). info-over k next rest h) (itemAt s at) refl
-    where
-      here : (it : Item) (con : Bool) (next : ℕ) → itemAt s at ≡ One it con next → dataOf it ≡ infoIn s at
-      here it con next e = rw (ne-eqb at 0 (λ (z : at ≡ 0). absurd (omega arith)), e)
+    -- the search in a list begins anew behind its first item
+    behind : (n : ℕ) (it : Item) (l : List Item) (at : ℕ) → first n (it ∷ l) (suc at) ≡ first n l at
+    unfolding firstFrom
+    behind zero it l at = refl
+    behind (suc n) it l at =
+        let on : suc at + 1 ≡ suc (at + 1) = omega arith in
+        ap (pick (soughtBy sought (itemIn l at .identity)) (tell (itemIn l at))) (ap (first n (it ∷ l)) on ∙ behind n it l (at + 1))
 
-      go : ((next : ℕ) → 1 ≤ next → infoFrom (length (itemsFrom k s next)) (itemsFrom k s next ++ rest) 0 ≡ infoIn s (infoPlace k s next))
-          → (g : Got) → itemAt s at ≡ g → infoFrom (length (listAfter (itemsFrom k s) g)) (listAfter (itemsFrom k s) g ++ rest) 0 ≡ infoIn s (placeAfter at (infoPlace k s) g)
-      go ih Cut e = refl
-      go ih (One it true next) e =
-          by (eqb (it .identity) 1)
-        where
-          by : (b : Bool) → pick b (dataOf it) (infoFrom (length (itemsFrom k s next)) (it ∷ (itemsFrom k s next ++ rest)) 1) ≡ infoIn s (pick b at (infoPlace k s next))
-          by true = here it true next e
-          by false = behind (length (itemsFrom k s next)) it (itemsFrom k s next ++ rest) 0 ∙ ih next (omega (arith, item-inside s at it true next e .0))
-      go ih (One it false next) e = by (eqb (it .identity) 1)
-        where
-          by : (b : Bool) → pick b (dataOf it) noInfo ≡ infoIn s (pick b at 0)
-          by true = here it false next e
-          by false = refl
+    first-over : (k at : ℕ) (rest : List Item) → 1 ≤ at → first (length (itemsFrom k s at)) (itemsFrom k s at ++ rest) 0 ≡ said (placeFrom sought k s at)
+    unfolding itemsFrom firstFrom placeFrom
+    first-over zero at rest a = sym nothing
+    first-over (suc k) at rest a = go (λ (next : ℕ) (h : 1 ≤ next). first-over k next rest h) (itemAt s at) refl
+      where
+        go : ((next : ℕ) → 1 ≤ next → first (length (itemsFrom k s next)) (itemsFrom k s next ++ rest) 0 ≡ said (placeFrom sought k s next))
+            → (g : Got) → itemAt s at ≡ g → first (length (listAfter (itemsFrom k s) g)) (listAfter (itemsFrom k s) g ++ rest) 0 ≡ said (placeAfter sought at (placeFrom sought k s) g)
+        go ih Cut e = sym nothing
+        go ih (One it true next) e = by (soughtBy sought (it .identity))
+          where
+            by : (b : Bool) → pick b (tell it) (first (length (itemsFrom k s next)) (it ∷ (itemsFrom k s next ++ rest)) 1) ≡ said (pick b at (placeFrom sought k s next))
+            by true = here at it true next a e
+            by false = behind (length (itemsFrom k s next)) it (itemsFrom k s next ++ rest) 0 ∙ ih next (omega (arith, item-inside s at it true next e .0))
+        go ih (One it false next) e = by (soughtBy sought (it .identity))
+          where
+            by : (b : Bool) → pick b (tell it) none ≡ said (pick b at 0)
+            by true = here at it false next a e
+            by false = sym nothing
 
-  -- the first Info item of the list that a walk finds
-  pub info-found : (at : ℕ) → 1 ≤ at → (end : ℕ) (w : Items) → Whole 16 (replicate 16 noItem) (itemsFrom 16 s at) end w
-      → infoFrom (pick (leb (w .count) 16) (w .count) 16) (w .list) 0 ≡ infoIn s (infoPlace 16 s at)
-  info-found at a end w h =
-      let items : List Item = itemsFrom 16 s at in
-      let n : w .count ≡ length items = omega (arith, h .counted) in
-      let few : length items ≤ 16 = items-few 16 at in
-      let fit : 0 + length items ≤ length (replicate 16 noItem) = omega (arith, few) in
-      rw (n, le-leb (length items) 16 few, h .listed, sets-eq items (replicate 16 noItem) 0 fit) (info-over 16 at (drop (0 + length items) (replicate 16 noItem)) a)
+    -- the same of the list that a walk finds
+    first-found : (at : ℕ) → 1 ≤ at → (end : ℕ) (w : Items) → Whole 16 (replicate 16 noItem) (itemsFrom 16 s at) end w
+        → first (pick (leb (w .count) 16) (w .count) 16) (w .list) 0 ≡ said (placeFrom sought 16 s at)
+    first-found at a end w h =
+        let items : List Item = itemsFrom 16 s at in
+        let n : w .count ≡ length items = omega (arith, h .counted) in
+        let few : length items ≤ 16 = items-few 16 at in
+        let fit : 0 + length items ≤ length (replicate 16 noItem) = omega (arith, few) in
+        rw (n, le-leb (length items) 16 few, h .listed, sets-eq items (replicate 16 noItem) 0 fit) (first-over 16 at (drop (0 + length items) (replicate 16 noItem)) a)
+
+  module _ (at : ℕ) (it : Item) (con : Bool) (next : ℕ) (far : 1 ≤ at) (e : itemAt s at ≡ One it con next) where
+    info-here : dataOf it ≡ infoIn s at
+    unfolding infoIn
+    info-here = rw (ne-eqb at 0 (λ (z : at ≡ 0). absurd (omega arith)), e)
+
+    unknown-here : namedBy it ≡ unknownIn s at
+    unfolding unknownIn
+    unknown-here = rw (ne-eqb at 0 (λ (z : at ≡ 0). absurd (omega arith)), e) (ap (λ (x : ℕ). record { identity = it .identity; place = x }) (first-octet s at it con next e))
+
+  module _ (at : ℕ) (a : 1 ≤ at) (end : ℕ) (w : Items) (found : Whole 16 (replicate 16 noItem) (itemsFrom 16 s at) end w) where
+    -- the first Info item of the list that a walk finds
+    pub info-found : infoFrom (pick (leb (w .count) 16) (w .count) 16) (w .list) 0 ≡ infoIn s (placeFrom InfoItem 16 s at)
+    unfolding infoFrom infoIn
+    info-found = first-found InfoItem dataOf noInfo (infoIn s) refl info-here at a end w found
+
+    -- and the first that isn't known
+    pub unknown-found : unknownFrom (pick (leb (w .count) 16) (w .count) 16) (w .list) 0 ≡ unknownIn s (placeFrom UnknownItem 16 s at)
+    unfolding unknownFrom unknownIn
+    unknown-found = first-found UnknownItem namedBy noUnknown (unknownIn s) refl unknown-here at a end w found

@@ -14,6 +14,7 @@ use Rattle.codec_items.specs.declared.Got.{Got}
 use Rattle.codec_items.specs.declared.Got.the-variants.{One, Cut}
 use Rattle.codec_items.specs.Forms.{Short, Long}
 use Rattle.codec_items.specs.Items.{itemAt, walkFrom, afterItem}
+use Rattle.codec_items.specs.Unknown.{firstOctet}
 
 pub cut-one : {A : Type 0} (it : Item) (con : Bool) (n : ℕ) → Cut ≡ One it con n → A
 cut-one it con n e = let z : _≡_ {A = ℕ} 0 1 = cc in absurd (omega arith)
@@ -52,6 +53,14 @@ module _ (s : List ℕ) (at : ℕ) (it : Item) (con : Bool) (next : ℕ) where
       go : Short s at it con next ⊎ Long s at it con next → (at < next) × (next ≤ length s)
       go (inl f) = (omega (arith, f .ends), omega (arith, f .ends, f .inside))
       go (inr f) = (omega (arith, f .ends), omega (arith, f .ends, f .inside))
+
+  -- the first octet of an item is where it was found
+  pub first-octet : itemAt s at ≡ One it con next → firstOctet it ≡ at
+  first-octet e = go (item-forms e)
+    where
+      go : Short s at it con next ⊎ Long s at it con next → firstOctet it ≡ at
+      go (inl f) = rw (f .item) (omega arith)
+      go (inr f) = rw (f .item) (omega arith)
 
 pub walk-inside : (k : ℕ) (s : List ℕ) (at : ℕ) (read : List Item) → walkFrom k s at read .end ≤ length s
 unfolding walkFrom

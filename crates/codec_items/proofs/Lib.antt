@@ -1,3 +1,4 @@
 pub mod WalkSteps
 pub mod Forms
 pub mod Finds
+pub mod FirstUnknown

@@ -1,11 +1,12 @@
 -- Laws of the walk's definitions, step by step. Assumes nothing.
-use mathlib.Core.Path.{_≡_, refl}
+use mathlib.Core.Path.{_≡_}
 use mathlib.Core.List.{List}
 use Prim.Native.Nat.{ℕ, zero, suc, _-_, _≤_}
 use native.Mathlib.Omega.{arith}
 use native.Mathlib.Numerals.{sub-one}
-use Rattle.codec_items.specs.Found.{endFrom, endAfter, infoPlace, placeAfter}
+use Rattle.codec_items.specs.Found.{endFrom, endAfter, placeFrom, placeAfter}
 use Rattle.codec_items.specs.Items.{itemAt}
+use Rattle.codec_items.specs.declared.Sought.{Sought}
 
 module _ (s : List ℕ) (at : ℕ) where
   pub end-last : (k : ℕ) → k ≡ 1 → endFrom (k - 1) s at ≡ 1
@@ -17,11 +18,14 @@ module _ (s : List ℕ) (at : ℕ) where
   end-more zero h = absurd (omega arith)
   end-more (suc k) h = rw sub-one
 
-  pub place-none : (k : ℕ) → k ≡ 0 → infoPlace k s at ≡ 0
-  unfolding infoPlace
-  place-none k e = rw e
+  module _ (sought : Sought) where
+    pub place-last : (k : ℕ) → k ≤ 1 → placeFrom sought (k - 1) s at ≡ 0
+    unfolding placeFrom
+    place-last k e = rw (none k e) where
+      none : (k : ℕ) → k ≤ 1 → k - 1 ≡ 0
+      none k e = omega arith
 
-  pub place-more : (k : ℕ) → (k ≡ 0 → ⊥) → infoPlace k s at ≡ placeAfter at (infoPlace (k - 1) s) (itemAt s at)
-  unfolding infoPlace
-  place-more zero h = absurd (h refl)
-  place-more (suc k) h = rw sub-one
+    pub place-more : (k : ℕ) → 1 ≤ k → placeFrom sought k s at ≡ placeAfter sought at (placeFrom sought (k - 1) s) (itemAt s at)
+    unfolding placeFrom
+    place-more zero h = absurd (omega arith)
+    place-more (suc k) h = rw sub-one

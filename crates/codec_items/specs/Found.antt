@@ -7,8 +7,11 @@ use Rattle.codec_items.specs.declared.Got.{Got}
 use Rattle.codec_items.specs.declared.Got.the-variants.{One, Cut}
 use Rattle.codec_items.specs.declared.Info.{Info}
 use Rattle.codec_items.specs.declared.Item.{Item}
+use Rattle.codec_items.specs.declared.Sought.{Sought}
+use Rattle.codec_items.specs.declared.Unknown.{Unknown}
 use Rattle.codec_items.specs.Items.{itemAt}
-use Rattle.codec_items.specs.Info.{noInfo, dataOf}
+use Rattle.codec_items.specs.Info.{soughtBy, noInfo, dataOf}
+use Rattle.codec_items.specs.Unknown.{noUnknown}
 
 -- the place after what stands at a place and what `rest` says of the items after it; 0 for D3, an item cut short
 abbrev pub endAfter : (ℕ → ℕ) → Got → ℕ
@@ -30,21 +33,25 @@ unfoldable pub itemsFrom : ℕ → List ℕ → ℕ → List Item
 itemsFrom zero s at = []
 itemsFrom (suc left) s at = listAfter (itemsFrom left s) (itemAt s at)
 
--- the place `at` of what stands there if that is an Info item, identity 1, else what `rest` says
-abbrev pub placeAfter : ℕ → (ℕ → ℕ) → Got → ℕ
-placeAfter at rest Cut = 0
-placeAfter at rest (One item con next) = pick (eqb (item .identity) 1) at (pick con (rest next) 0)
+-- the place `at` of what stands there if that is sought, else what `rest` says
+abbrev pub placeAfter : Sought → ℕ → (ℕ → ℕ) → Got → ℕ
+placeAfter sought at rest Cut = 0
+placeAfter sought at rest (One item con next) = pick (soughtBy sought (item .identity)) at (pick con (rest next) 0)
 
--- the place of the first Info item from `at` on, `left` items at most; 0 where there is none
-unfoldable pub infoPlace : ℕ → List ℕ → ℕ → ℕ
-infoPlace zero s at = 0
-infoPlace (suc left) s at = placeAfter at (infoPlace left s) (itemAt s at)
+-- the place of the first item sought from `at` on, `left` items at most; 0 where there is none
+unfoldable pub placeFrom : Sought → ℕ → List ℕ → ℕ → ℕ
+placeFrom sought zero s at = 0
+placeFrom sought (suc left) s at = placeAfter sought at (placeFrom sought left s) (itemAt s at)
 
--- the data of what stands at a place
-abbrev pub dataOfGot : Got → Info
-dataOfGot Cut = noInfo
-dataOfGot (One item con next) = dataOf item
+-- what `tell` says of what stands at a place
+abbrev pub toldOf : {A : Type 0} → (Item → A) → A → Got → A
+toldOf tell none Cut = none
+toldOf tell none (One item con next) = tell item
 
 -- the data of the item at a place; none at 0
 unfoldable pub infoIn : List ℕ → ℕ → Info
-infoIn s place = pick (eqb place 0) noInfo (dataOfGot (itemAt s place))
+infoIn s place = pick (eqb place 0) noInfo (toldOf dataOf noInfo (itemAt s place))
+
+-- the identity of the item at a place, and the place; none at 0
+unfoldable pub unknownIn : List ℕ → ℕ → Unknown
+unknownIn s place = pick (eqb place 0) noUnknown (toldOf (λ item. record { identity = item .identity; place = place }) noUnknown (itemAt s place))

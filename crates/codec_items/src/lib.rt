@@ -3,7 +3,8 @@ ghost use mathlib.Core.Path.{_≡_};
 ghost use Prim.Native.Nat.{_≤_, _<_};
 ghost use lib.ListN.{length};
 ghost use Rattle.codec_items.specs.Items.{itemOf, itemAt};
-ghost use Rattle.codec_items.specs.Found.{endFrom, infoPlace, infoIn};
+ghost use Rattle.codec_items.specs.Info.{soughtBy};
+ghost use Rattle.codec_items.specs.Found.{endFrom, placeFrom, infoIn, unknownIn};
 use base_numbers::Verdict;
 
 // An item as it lies in its octets: identity, long form or short, and where its data stands.
@@ -24,6 +25,18 @@ pub enum Got {
 pub struct Info {
     pub start: usize,
     pub len: usize,
+}
+
+// Identity, and place of the first octet, of an item that isn't known; 0 and 0 where there is none.
+pub struct Unknown {
+    pub identity: u8,
+    pub place: usize,
+}
+
+// What is sought among the items: the first Info item, or the first that isn't known.
+pub enum Sought {
+    InfoItem,
+    UnknownItem,
 }
 
 // What the walk finds: the items, how many they are and the place after them; or how they are malformed.
@@ -95,21 +108,33 @@ pub fn end_from(s: &[u8], at: usize, left: usize) -> usize
     }
 }
 
-// The place of the first Info item among the items from `at` on, `left` at most; 0 where there is none.
-fn info_place(s: &[u8], at: usize, left: usize) -> usize
-    ensures { λ r. ⌜ r ≡ infoPlace left (now (s .entry)) at ⌝ }
+// Whether an item of this identity is sought: 1 is Info; 8.4 knows 0 to 5.
+fn is_sought(sought: Sought, identity: u8) -> bool
+    ensures { λ r. ⌜ r ≡ soughtBy sought identity ⌝ }
 {
-    if left == 0 {
-        return 0;
+    match sought {
+        Sought::InfoItem => identity == 1,
+        Sought::UnknownItem => 6 <= identity,
     }
+}
+
+// The place of the first item sought among the items from `at` on, `left` at most; 0 where there is none.
+pub fn place_from(s: &[u8], at: usize, left: usize, sought: Sought) -> usize
+    requires { ⌜ 1 ≤ left ⌝ }
+    ensures { λ r. ⌜ r ≡ placeFrom sought left (now (s .entry)) at ⌝ }
+{
     match item_at(s, at) {
         Got::Cut => 0,
         Got::One { item, con, next } => {
-            if item.identity == 1 {
+            if is_sought(sought, item.identity) {
                 return at;
             }
             if con {
-                info_place(s, next, left - 1)
+                if 1 < left {
+                    place_from(s, next, left - 1, sought)
+                } else {
+                    0
+                }
             } else {
                 0
             }
@@ -117,8 +142,8 @@ fn info_place(s: &[u8], at: usize, left: usize) -> usize
     }
 }
 
-// The data of the Info item at a place that isn't 0.
-fn info_in(s: &[u8], place: usize) -> Info
+// The data of the item at a place; none at 0.
+pub fn info_in(s: &[u8], place: usize) -> Info
     ensures { λ r. ⌜ r ≡ infoIn (now (s .entry)) place ⌝ }
 {
     if place == 0 {
@@ -133,9 +158,24 @@ fn info_in(s: &[u8], place: usize) -> Info
     }
 }
 
-// The data of the first Info item among the items from `at` on.
-pub fn info_from(s: &[u8], at: usize) -> Info
-    ensures { λ r. ⌜ r ≡ infoIn (now (s .entry)) (infoPlace 16 (now (s .entry)) at) ⌝ }
+// The identity of the item at a place, and that place; none at 0.
+pub fn unknown_in(s: &[u8], place: usize) -> Unknown
+    ensures { λ r. ⌜ r ≡ unknownIn (now (s .entry)) place ⌝ }
 {
-    info_in(s, info_place(s, at, 16))
+    if place == 0 {
+        return Unknown {
+            identity: 0,
+            place: 0,
+        };
+    }
+    match item_at(s, place) {
+        Got::Cut => Unknown {
+            identity: 0,
+            place: 0,
+        },
+        Got::One { item, .. } => Unknown {
+            identity: item.identity,
+            place: place,
+        },
+    }
 }

@@ -5,7 +5,9 @@ use lib.Dec.{leb}
 use Rattle.base_lists.specs.Seq.{pick}
 use Rattle.codec_items.specs.Items.{noItem}
 use Rattle.codec_items.specs.Info.{infoFrom}
+use Rattle.codec_items.specs.Unknown.{unknownFrom}
 use Rattle.codec_items.specs.declared.Info.{Info}
+use Rattle.codec_items.specs.declared.Unknown.{Unknown}
 use Rattle.codec_pdu.specs.declared.Kind.{Kind}
 use Rattle.codec_pdu.specs.declared.Kind.the-variants.{Invoke, Result, Ack, Abort, SegInvoke, SegResult, Nack, Wrong, Refused}
 use Rattle.codec_pdu.specs.declared.Pdu.{Pdu}
@@ -41,3 +43,7 @@ blankPdu k = record { kind = k; tid = 0; count = 0; list = replicate 16 noItem; 
 -- 01: "A confirmation's data is that of the first Info item of its Ack, else empty"; "At most 16 items"
 unfoldable pub infoOf : Pdu → Info
 infoOf p = infoFrom (pick (leb (p .count) 16) (p .count) 16) (p .list) 0
+
+-- 02, L4: "Reading a PDU must also tell the identity and place of the first item it does not know"
+unfoldable pub unknownOf : Pdu → Unknown
+unknownOf p = unknownFrom (pick (leb (p .count) 16) (p .count) 16) (p .list) 0

@@ -7,6 +7,7 @@ use base_numbers::Refusal;
 use base_tids::RcvTid;
 use codec_items::Info;
 use codec_items::Item;
+use codec_items::Unknown;
 
 // The kind of a PDU with what its fixed header says; or why there is none.
 pub enum Kind {
@@ -63,13 +64,14 @@ pub struct Pdu {
     pub len: usize,
 }
 
-// What the engine takes of a PDU: all but its items, and of these the first Info item.
+// What the engine takes of a PDU: all but its items, and of these the first Info item and the first that isn't known.
 pub struct Brief {
     pub kind: Kind,
     pub tid: RcvTid,
     pub info: Info,
     pub start: usize,
     pub len: usize,
+    pub unknown: Unknown,
 }
 
 // Whether there is a PDU of this kind.
@@ -116,5 +118,9 @@ pub fn blank_brief(kind: Kind) -> Brief
         info: Info { start: 0, len: 0 },
         start: 0,
         len: 0,
+        unknown: Unknown {
+            identity: 0,
+            place: 0,
+        },
     }
 }

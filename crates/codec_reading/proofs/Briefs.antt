@@ -1,7 +1,7 @@
 -- What is read without a list of the items is what the engine takes of the PDU. Assumes nothing.
-use Prim.Native.Nat.{ℕ, _+_, _-_, _≤_}
+use Prim.Native.Nat.{ℕ, zero, suc, _+_, _-_, _≤_}
 use native.Mathlib.Omega.{arith}
-use borrow.Author.Tests.{ne-eqb, le-ltb}
+use borrow.Author.Tests.{ne-eqb, lt-ltb, le-ltb}
 use mathlib.Core.Path.{_≡_, refl, sym}
 use mathlib.Core.List.{List}
 use mathlib.Core.Bool.{Bool, true, false}
@@ -14,15 +14,18 @@ use Rattle.base_numbers.specs.declared.Malformed.the-variants.{D1, D2, D3, D4, 
 use Rattle.base_numbers.specs.declared.Verdict.the-variants.{Sound, Bad}
 use Rattle.codec_items.specs.declared.Items.{Items}
 use Rattle.codec_items.specs.Items.{noItem, noItems, walkFrom}
-use Rattle.codec_items.specs.Info.{infoFrom}
-use Rattle.codec_items.specs.Found.{endFrom, itemsFrom}
-use Rattle.codec_items.proofs.Finds.{Finds, finds, end-inside, info-found}
-use Rattle.codec_pdu.specs.Pdu.{soundOf, bareOf, blankPdu, infoOf}
+use Rattle.codec_items.specs.Info.{firstFrom, infoFrom}
+use Rattle.codec_items.specs.Unknown.{unknownFrom}
+use Rattle.codec_items.specs.Found.{endFrom, itemsFrom, infoIn, unknownIn}
+use Rattle.codec_items.specs.declared.Sought.the-variants.{InfoItem, UnknownItem}
+use Rattle.codec_items.proofs.Finds.{Finds, finds, end-inside, info-found, unknown-found}
+use Rattle.codec_pdu.specs.Pdu.{soundOf, bareOf, blankPdu, infoOf, unknownOf}
 use Rattle.codec_pdu.specs.Brief.{briefOf}
+use Rattle.codec_pdu.specs.declared.Brief.{Brief}
 use Rattle.codec_pdu.specs.declared.Kind.the-variants.{Wrong}
 use Rattle.codec_reading.specs.declared.Head.{Head}
 use Rattle.codec_reading.specs.Read.{typeOf, badHead, goodHead, longHead, headOf, whole, finished, itemsAfter, afterHead, pduOf}
-use Rattle.codec_reading.specs.Brief.{endAfter, infoAfter, wholeBrief, wrongBrief, endedBrief}
+use Rattle.codec_reading.specs.Brief.{endAfter, placeAfter, placesAfter, wholeBrief, wrongBrief, endedBrief}
 
 -- a sound header has three octets or more
 abbrev Far : Head → Type 0
@@ -60,32 +63,37 @@ module _ (s : List ℕ) where
       go false = i
 
   module _ (h : Head) where
-    -- items that end well
-    ends-well : (i : Items) (end : ℕ) → 2 ≤ end → i .verdict ≡ Sound → i .end ≡ end → infoFrom (pick (leb (i .count) 16) (i .count) 16) (i .list) 0 ≡ infoAfter s h
-        → endedBrief s h end ≡ briefOf (finished s h i)
-    unfolding endedBrief finished wholeBrief briefOf infoOf
-    ends-well i end l v e q = rw (ne-eqb end 0 (λ (z : end ≡ 0). absurd (omega arith)), ne-eqb end 1 (λ (z : end ≡ 1). absurd (omega arith)), v, e) (go (bareOf (h .kind)) (eqb (length s - end) 0))
-      where
-        go : (a b : Bool) → pick a (pick b (wholeBrief s h 0 0) (wrongBrief (Wrong D7))) (wholeBrief s h end (length s - end)) ≡ briefOf (pick a (pick b (whole h i 0 0) (blankPdu (Wrong D7))) (whole h i end (length s - end)))
-        go true true = rw q
-        go true false = refl
-        go false b = rw q
+    -- the brief of a PDU whose user data of len octets starts at `start`
+    abbrev wholeAt : ℕ → ℕ → Brief
+    wholeAt start len = record { kind = h .kind; tid = h .tid; info = infoIn s (placeAfter s h InfoItem); start = start; len = len; unknown = unknownIn s (placeAfter s h UnknownItem) }
 
-    pub ended-brief : 3 ≤ h .end → endedBrief s h (endAfter s h) ≡ briefOf (finished s h (itemsAfter s h))
-    unfolding endAfter itemsAfter infoAfter endedBrief finished infoFrom
+    -- items that end well
+    ends-well : (i : Items) (end : ℕ) → 2 ≤ end → i .verdict ≡ Sound → i .end ≡ end → infoFrom (pick (leb (i .count) 16) (i .count) 16) (i .list) 0 ≡ infoIn s (placeAfter s h InfoItem)
+        → unknownFrom (pick (leb (i .count) 16) (i .count) 16) (i .list) 0 ≡ unknownIn s (placeAfter s h UnknownItem)
+        → endedBrief s h (placesAfter s h) end ≡ briefOf (finished s h i)
+    unfolding endedBrief finished placesAfter wholeBrief briefOf infoOf unknownOf
+    ends-well i end l v e q u = rw (ne-eqb end 0 (λ (z : end ≡ 0). absurd (omega arith)), ne-eqb end 1 (λ (z : end ≡ 1). absurd (omega arith)), v, e) (go (bareOf (h .kind)) (length s - end))
+      where
+        go : (a : Bool) (left : ℕ) → pick (pick a (ltb 0 left) false) (wrongBrief (Wrong D7)) (wholeAt (pick a 0 end) left) ≡ briefOf (pick a (pick (eqb left 0) (whole h i 0 0) (blankPdu (Wrong D7))) (whole h i end left))
+        go true zero = rw (q, u)
+        go true (suc left) = rw (lt-ltb 0 (suc left) (omega arith), ne-eqb (suc left) 0 (λ (z : suc left ≡ 0). absurd (omega arith)))
+        go false left = rw (q, u)
+
+    pub ended-brief : 3 ≤ h .end → endedBrief s h (placesAfter s h) (endAfter s h) ≡ briefOf (finished s h (itemsAfter s h))
+    unfolding endAfter itemsAfter placeAfter infoIn unknownIn endedBrief finished infoFrom unknownFrom firstFrom
     ended-brief l = go (h .con) refl
       where
-        by : h .con ≡ true → (end : ℕ) (i : Items) → Finds 16 (replicate 16 noItem) (itemsFrom 16 s (h .end)) end i → endedBrief s h end ≡ briefOf (finished s h i)
+        by : h .con ≡ true → (end : ℕ) (i : Items) → Finds 16 (replicate 16 noItem) (itemsFrom 16 s (h .end)) end i → endedBrief s h (placesAfter s h) end ≡ briefOf (finished s h i)
         by p end i (inl (e, w)) = rw (e, w)
         by p end i (inr (inl (e, w))) = rw (e, w)
-        by p end i (inr (inr w)) = ends-well i end (w .far) (w .sound) (w .ends) (rw p (info-found s (h .end) (omega arith) end i w))
+        by p end i (inr (inr w)) = ends-well i end (w .far) (w .sound) (w .ends) (rw p (info-found s (h .end) (omega arith) end i w)) (rw p (unknown-found s (h .end) (omega arith) end i w))
 
-        go : (b : Bool) → h .con ≡ b → endedBrief s h (pick b (endFrom 16 s (h .end)) (h .end)) ≡ briefOf (finished s h (pick b (walkFrom 16 s (h .end) (replicate 16 noItem)) (noItems Sound (h .end))))
+        go : (b : Bool) → h .con ≡ b → endedBrief s h (placesAfter s h) (pick b (endFrom 16 s (h .end)) (h .end)) ≡ briefOf (finished s h (pick b (walkFrom 16 s (h .end) (replicate 16 noItem)) (noItems Sound (h .end))))
         go true p = by p _ _ (finds s 16 (h .end) (replicate 16 noItem) (omega arith) (omega arith))
-        go false p = ends-well (noItems Sound (h .end)) (h .end) (omega arith) refl refl (rw p)
+        go false p = ends-well (noItems Sound (h .end)) (h .end) (omega arith) refl refl (rw p) (rw p)
 
   module _ (some : 1 ≤ length s) (few : length s ≤ 1500) where
-    pub brief-sound : soundOf (headOf s .kind) ≡ true → endedBrief s (headOf s) (endAfter s (headOf s)) ≡ briefOf (pduOf s)
+    pub brief-sound : soundOf (headOf s .kind) ≡ true → endedBrief s (headOf s) (placesAfter s (headOf s)) (endAfter s (headOf s)) ≡ briefOf (pduOf s)
     unfolding pduOf afterHead
     brief-sound k = rw (ne-eqb (length s) 0 (λ (z : length s ≡ 0). absurd (omega arith)), le-ltb 1500 (length s) few, k) (ended-brief (headOf s) (head-far k))
 

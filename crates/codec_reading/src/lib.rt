@@ -4,11 +4,11 @@ ghost use Prim.Native.Nat.{_≤_};
 ghost use lib.ListN.{length};
 ghost use Rattle.codec_pdu.specs.Brief.{briefOf};
 ghost use Rattle.codec_reading.specs.Read.{kindOf, headOf, longHead, goodHead, badHead, pduOf};
-ghost use Rattle.codec_reading.specs.Brief.{endAfter, infoAfter, wholeBrief, endedBrief, itemsAt};
+ghost use Rattle.codec_reading.specs.Brief.{endAfter, placeAfter, placesAfter, startOf, wholeBrief, bytesLeft, endedBrief, itemsAt};
 use base_numbers::Malformed;
 use base_numbers::Refusal;
 use base_tids::RcvTid;
-use codec_items::Info;
+use codec_items::Sought;
 use codec_pdu::Brief;
 use codec_pdu::Kind;
 
@@ -18,6 +18,12 @@ pub struct Head {
     pub con: bool,
     pub tid: RcvTid,
     pub end: usize,
+}
+
+// The places of the first Info item and of the first item that isn't known, 0 where there is none.
+pub struct Places {
+    pub info: usize,
+    pub unknown: usize,
 }
 
 // An Invoke by its flags and the octet after the TID; class 3 is reserved.
@@ -169,37 +175,71 @@ fn end_after(s: &[u8], head: Head) -> usize
     }
 }
 
-// The first Info item after a sound header.
-fn info_after(s: &[u8], head: Head) -> Info
-    ensures { λ r. ⌜ r ≡ infoAfter (now (s .entry)) head ⌝ }
+// The place of the first item sought after a sound header; 0 where there is none.
+fn place_after(s: &[u8], head: Head, sought: Sought) -> usize
+    ensures { λ r. ⌜ r ≡ placeAfter (now (s .entry)) head sought ⌝ }
 {
     if head.con {
-        codec_items::info_from(s, head.end)
+        codec_items::place_from(s, head.end, 16, sought)
     } else {
-        Info { start: 0, len: 0 }
+        0
     }
 }
 
-// The brief of a sound header whose items end well, with the user data of len octets at start.
-fn whole(s: &[u8], head: Head, start: usize, len: usize) -> Brief
-    ensures { λ r. ⌜ r ≡ wholeBrief (now (s .entry)) head start len ⌝ }
+// Both places.
+fn places_after(s: &[u8], head: Head) -> Places
+    ensures { λ r. ⌜ r ≡ placesAfter (now (s .entry)) head ⌝ }
+{
+    let info = place_after(s, head, Sought::InfoItem);
+    let unknown = place_after(s, head, Sought::UnknownItem);
+    Places {
+        info: info,
+        unknown: unknown,
+    }
+}
+
+// Whether octets are left after the items of a PDU without user data.
+fn bytes_left(kind: Kind, left: usize) -> bool
+    ensures { λ r. ⌜ r ≡ bytesLeft kind left ⌝ }
+{
+    if codec_pdu::bare(kind) {
+        0 < left
+    } else {
+        false
+    }
+}
+
+// Where the user data starts, after the items' end; 0 where there can be none.
+fn start_of(kind: Kind, end: usize) -> usize
+    ensures { λ r. ⌜ r ≡ startOf kind end ⌝ }
+{
+    if codec_pdu::bare(kind) { 0 } else { end }
+}
+
+// The brief of a sound header whose items end well, at `end`.
+fn whole(s: &[u8], head: Head, at: Places, end: usize) -> Brief
+    requires { ⌜ end ≤ length (now s) ⌝ }
+    ensures { λ r. ⌜ r ≡ wholeBrief (now (s .entry)) head at end ⌝ }
 {
     let kind = head.kind;
     let tid = head.tid;
-    let info = info_after(s, head);
+    let info = codec_items::info_in(s, at.info);
+    let unknown = codec_items::unknown_in(s, at.unknown);
+    let start = start_of(kind, end);
     Brief {
         kind: kind,
         tid: tid,
         info: info,
         start: start,
-        len: len,
+        len: s.len() - end,
+        unknown: unknown,
     }
 }
 
 // The brief of a sound header and the items after it, which end at `end`.
-fn ended(s: &[u8], head: Head, end: usize) -> Brief
+fn ended(s: &[u8], head: Head, at: Places, end: usize) -> Brief
     requires { ⌜ end ≤ length (now s) ⌝ }
-    ensures { λ r. ⌜ r ≡ endedBrief (now (s .entry)) head end ⌝ }
+    ensures { λ r. ⌜ r ≡ endedBrief (now (s .entry)) head at end ⌝ }
 {
     if end == 0 {
         return codec_pdu::blank_brief(Kind::Wrong(Malformed::D3));
@@ -208,17 +248,13 @@ fn ended(s: &[u8], head: Head, end: usize) -> Brief
         return codec_pdu::blank_brief(Kind::Wrong(Malformed::D4));
     }
     let kind = head.kind;
-    let left = s.len() - end;
-    if codec_pdu::bare(kind) {
-        if left == 0 {
-            return whole(s, head, 0, 0);
-        }
+    if bytes_left(kind, s.len() - end) {
         return codec_pdu::blank_brief(Kind::Wrong(Malformed::D7));
     }
-    whole(s, head, end, left)
+    whole(s, head, at, end)
 }
 
-// The brief of the PDU that a slice holds, or how it is malformed, or refusal 11.
+// The brief of the PDU that a slice holds, or how it is malformed, or refusal 11. The walks come first, so that less is kept on the stack below them.
 pub fn brief(s: &[u8]) -> Brief
     ensures { λ r. ⌜ r ≡ briefOf (pduOf (now (s .entry))) ⌝ }
 {
@@ -229,9 +265,11 @@ pub fn brief(s: &[u8]) -> Brief
         return codec_pdu::blank_brief(Kind::Refused(Refusal::WrongLength));
     }
     let head = head_of(s);
+    let at = places_after(s, head);
+    let end = end_after(s, head);
     let kind = head.kind;
     if codec_pdu::sound(kind) {
-        ended(s, head, end_after(s, head))
+        ended(s, head, at, end)
     } else {
         codec_pdu::blank_brief(kind)
     }

@@ -11,6 +11,8 @@ use Rattle.base_lists.specs.Seq.{bit, tab}
 use Rattle.base_lists.proofs.StoresAndParts.{length-tab, getD-tab}
 use Rattle.codec_items.specs.Items.{noItem}
 use Rattle.codec_items.specs.declared.Item.{Item}
+use Rattle.codec_items.specs.declared.Unknown.{Unknown}
+use Rattle.codec_pdu.specs.Pdu.{unknownOf}
 use Rattle.codec_pdu.specs.declared.Kind.{Kind}
 use Rattle.codec_pdu.specs.declared.Kind.the-variants.{Invoke, Result, Ack, Abort, SegInvoke, SegResult, Nack, Wrong, Refused}
 use Rattle.codec_pdu.specs.declared.Pdu.{Pdu}
@@ -26,10 +28,10 @@ bit-said false = refl
 octet-said : (x : ℕ) → x < 256 → x % 256 ≡ x
 octet-said x h = omega arith
 
-module _ (tid count start len : ℕ) (rest : List ℕ) where
+module _ (tid count start len : ℕ) (unknown : Unknown) (rest : List ℕ) where
   -- words 0 to 23 of a kind, and then others
   abbrev pub headOf : Kind → List ℕ
-  headOf k = frontWords k tid ++ (invokeWords k ++ (otherWords k ++ restWords count start len))
+  headOf k = frontWords k tid ++ (invokeWords k ++ (otherWords k ++ restWords count start len unknown))
 
   kind-stored : (k : Kind) → NarrowKind k → kindSaid (headOf k ++ rest) ≡ k
   unfolding NarrowKind frontWords invokeWords otherWords restWords
@@ -83,8 +85,8 @@ module _ (p : Pdu) (rest : List ℕ) where
   unfolding wordsOf
   head-first = append-assoc (headWords p) (itemsWords (p .list)) rest
 
-  abbrev plain : Plain (p .tid) (p .count) (p .start) (p .len) (itemsWords (p .list) ++ rest) (p .kind)
-  plain = plain-stored (p .tid) (p .count) (p .start) (p .len) (itemsWords (p .list) ++ rest) (p .kind)
+  abbrev plain : Plain (p .tid) (p .count) (p .start) (p .len) (unknownOf p) (itemsWords (p .list) ++ rest) (p .kind)
+  plain = plain-stored (p .tid) (p .count) (p .start) (p .len) (unknownOf p) (itemsWords (p .list) ++ rest) (p .kind)
 
   module _ (k j : ℕ) (full : length (p .list) ≡ 16) (h : k < 16) (g : j < 4) where
     pub word-of-item : word stored (24 + 4 * k + j) ≡ getD (itemWords (getD (p .list) k noItem)) j 0
@@ -124,7 +126,7 @@ module _ (p : Pdu) (rest : List ℕ) where
     unfolding pduSaid headWords
     said-stored =
         let front : (x : ℕ) → word stored x ≡ word (headWords p ++ (itemsWords (p .list) ++ rest)) x = λ x. ap (λ (w : List ℕ). word w x) head-first in
-        let k : kindSaid stored ≡ p .kind = ap kindSaid head-first ∙ kind-stored (p .tid) (p .count) (p .start) (p .len) (itemsWords (p .list) ++ rest) (p .kind) (n .kind-narrow) in
+        let k : kindSaid stored ≡ p .kind = ap kindSaid head-first ∙ kind-stored (p .tid) (p .count) (p .start) (p .len) (unknownOf p) (itemsWords (p .list) ++ rest) (p .kind) (n .kind-narrow) in
         let t : word stored 4 % 65536 ≡ p .tid = omega (arith, front 4, plain .0, n .tid-narrow) in
         λ i. record { kind = k i; tid = t i; count = (front 15 ∙ plain .1) i; list = items-said-stored i; start = (front 16 ∙ plain .2) i; len = (front 17 ∙ plain .3) i }
 

@@ -7,10 +7,15 @@ use mathlib.Core.Bool.{Bool, true, false}
 use mathlib.Core.Logic.{_⊎_, inl, inr}
 use lib.ListN.{length, getD, replicate}
 use borrow.Author.Tests.{le-leb}
-use Rattle.base_lists.specs.Seq.{bit}
+use Rattle.base_lists.specs.Seq.{pick, bit}
 use Rattle.base_lists.proofs.StoresAndParts.{bit-le, lt-or-le, every-all}
 use Rattle.codec_items.specs.Items.{noItem}
+use Rattle.codec_items.specs.Unknown.{firstOctet, unknownFrom}
+use Rattle.codec_items.specs.FirstUnknown.{Says}
+use Rattle.codec_items.proofs.FirstUnknown.{unknown-says}
 use Rattle.codec_items.specs.declared.Item.{Item}
+use Rattle.codec_items.specs.declared.Unknown.{Unknown}
+use Rattle.codec_pdu.specs.Pdu.{unknownOf}
 use Rattle.codec_pdu.specs.declared.Pdu.{Pdu}
 use Rattle.codec_words.specs.Words.{itemWords, itemsWords, headWords, wordsOf}
 use Rattle.codec_said.specs.Said.{word, pduSaid, Narrow}
@@ -92,8 +97,26 @@ module _ (s : List ℕ) (p : Pdu) (rest : List ℕ) (r : AsRead s p) where
   abbrev tail : List ℕ
   tail = itemsWords (p .list) ++ rest
 
-  head : HeadFits s (p .tid) (p .count) (p .start) (p .len) tail (p .kind)
-  head = head-fits s (p .tid) (p .count) (p .start) (p .len) tail (fit .tid-fits) (omega (arith, r .writable .few)) (omega (arith, fit .user-fits, r .addressable)) (omega (arith, fit .user-fits, r .addressable)) (r .addressable)
+  -- the first unknown item is one of the items, or none
+  unknown-fits : (unknownOf p .identity ≤ any) × (unknownOf p .place ≤ any)
+  unfolding unknownOf
+  unknown-fits = rw (le-leb (p .count) 16 (r .writable .few)) (go (unknownFrom (p .count) (p .list) 0) (unknown-says (p .count) (p .list) 0))
+    where
+      first-octet : (it : Item) → firstOctet it ≤ it .start
+      first-octet it = by (it .long)
+        where
+          by : (b : Bool) → pick b (it .start - 2) (it .start - 1) ≤ it .start
+          by true = omega arith
+          by false = omega arith
+
+      go : (u : Unknown) → Says (p .list) 0 (p .count) u → (u .identity ≤ any) × (u .place ≤ any)
+      go u (inl (i, f, e)) =
+          let g = item-fit i (omega (arith, f .below)) in
+          rw e (omega (arith, g .identity-fits), omega (arith, first-octet (getD (p .list) i noItem), g .inside, r .addressable))
+      go u (inr (f, e)) = rw e (omega arith, omega arith)
+
+  head : HeadFits s (p .tid) (p .count) (p .start) (p .len) (unknownOf p) tail (p .kind)
+  head = head-fits s (p .tid) (p .count) (p .start) (p .len) (unknownOf p) tail (fit .tid-fits) (omega (arith, r .writable .few)) (omega (arith, fit .user-fits, r .addressable)) (omega (arith, fit .user-fits, r .addressable)) unknown-fits (r .addressable)
       (p .kind) (fit .kind-fits) (r .octets) (r .no-data)
 
   word-narrow : (i : ℕ) → (i < 24) ⊎ (24 ≤ i) → i < 88 → word (stored p rest) i ≤ widest (stored p rest) i
@@ -101,7 +124,7 @@ module _ (s : List ℕ) (p : Pdu) (rest : List ℕ) (r : AsRead s p) where
   word-narrow i (inl u) h =
       rw (widest-head (stored p rest) i u)
       (subst (λ (x : List ℕ). word x i ≤ getD (getD widths i []) (word x 0) 0) (sym (head-first p rest))
-      (upto-at (Below s (p .tid) (p .count) (p .start) (p .len) tail (p .kind)) 24 (head .narrow) i u))
+      (upto-at (Below s (p .tid) (p .count) (p .start) (p .len) (unknownOf p) tail (p .kind)) 24 (head .narrow) i u))
   word-narrow i (inr u) h =
       let k : ℕ = (i - 24) / 4 in
       let j : ℕ = (i - 24) % 4 in

@@ -56,7 +56,8 @@ widths =
     ∷ each any  -- number of items, which D4 judges
     ∷ withData any  -- start of the user data
     ∷ each any  -- length of the user data, which D7 judges
-    ∷ each 0 ∷ each 0 ∷ each 0 ∷ each 0 ∷ each 0 ∷ each 0 ∷ []  -- 18 to 23
+    ∷ each any ∷ each any  -- 18 and 19, which a PDU to be written hasn't
+    ∷ each 0 ∷ each 0 ∷ each 0 ∷ each 0 ∷ []  -- 20 to 23
 
 -- 01: "0 and a 2-bit length, or 1 .. and a length octet"
 abbrev pub longestSaid : ℕ → ℕ

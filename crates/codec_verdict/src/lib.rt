@@ -113,19 +113,19 @@ fn middle_widths(t: u64) -> [u64; 8]
     }
 }
 
-// Of words 16 to 23: start and length of the user data; the others are zero.
+// Of words 16 to 23: start and length of the user data; the first unknown item, which is passed over; the others are zero.
 fn last_widths(t: u64) -> [u64; 8]
     requires { ⌜ t < 8 ⌝ }
     ensures { λ r. ⌜ r ≡ widthsOf t 16 ⌝ }
 {
     match t {
-        1 => [ANY, ANY, 0, 0, 0, 0, 0, 0],
-        2 => [ANY, ANY, 0, 0, 0, 0, 0, 0],
-        3 => [0, ANY, 0, 0, 0, 0, 0, 0],
-        4 => [0, ANY, 0, 0, 0, 0, 0, 0],
-        5 => [ANY, ANY, 0, 0, 0, 0, 0, 0],
-        6 => [ANY, ANY, 0, 0, 0, 0, 0, 0],
-        7 => [0, ANY, 0, 0, 0, 0, 0, 0],
+        1 => [ANY, ANY, ANY, ANY, 0, 0, 0, 0],
+        2 => [ANY, ANY, ANY, ANY, 0, 0, 0, 0],
+        3 => [0, ANY, ANY, ANY, 0, 0, 0, 0],
+        4 => [0, ANY, ANY, ANY, 0, 0, 0, 0],
+        5 => [ANY, ANY, ANY, ANY, 0, 0, 0, 0],
+        6 => [ANY, ANY, ANY, ANY, 0, 0, 0, 0],
+        7 => [0, ANY, ANY, ANY, 0, 0, 0, 0],
         _ => [0; 8],
     }
 }

@@ -37,5 +37,5 @@ countFrom (suc n) s at = placedAt s at .one + countFrom n s (placedAt s at .next
 -- the words of a PDU in s, whose first item stands at `first`
 unfoldable pub wordsFrom : List ℕ → ℕ → Brief → List ℕ
 wordsFrom s first b =
-    (frontWords (b .kind) (b .tid .0) ++ (invokeWords (b .kind) ++ (otherWords (b .kind) ++ restWords (countFrom 16 s first) (b .start) (b .len))))
+    (frontWords (b .kind) (b .tid .0) ++ (invokeWords (b .kind) ++ (otherWords (b .kind) ++ restWords (countFrom 16 s first) (b .start) (b .len) (b .unknown))))
     ++ itemsWords (listFrom 16 s first)

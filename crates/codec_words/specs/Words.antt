@@ -3,6 +3,8 @@ use Prim.Native.Nat.{ℕ}
 use mathlib.Core.List.{List, [], _∷_, _++_}
 use Rattle.base_lists.specs.Seq.{bit}
 use Rattle.codec_items.specs.declared.Item.{Item}
+use Rattle.codec_items.specs.declared.Unknown.{Unknown}
+use Rattle.codec_pdu.specs.Pdu.{unknownOf}
 use Rattle.codec_pdu.specs.declared.Kind.{Kind}
 use Rattle.codec_pdu.specs.declared.Kind.the-variants.{Invoke, Result, Ack, Abort, SegInvoke, SegResult, Nack, Wrong, Refused}
 use Rattle.codec_pdu.specs.declared.Pdu.{Pdu}
@@ -43,9 +45,9 @@ otherWords (Nack c n l) = 0 ∷ 0 ∷ 0 ∷ 0 ∷ n ∷ l ∷ []
 otherWords (Wrong d) = 0 ∷ 0 ∷ 0 ∷ 0 ∷ 0 ∷ 0 ∷ []
 otherWords (Refused r) = 0 ∷ 0 ∷ 0 ∷ 0 ∷ 0 ∷ 0 ∷ []
 
--- the C interface: "15 number of items (0 to 16), 16 start and 17 length of the user data, 18 to 23 zero"
-unfoldable pub restWords : ℕ → ℕ → ℕ → List ℕ
-restWords count start len = count ∷ start ∷ len ∷ 0 ∷ 0 ∷ 0 ∷ 0 ∷ 0 ∷ 0 ∷ []
+-- the C interface: "15 number of items (0 to 16), 16 start and 17 length of the user data"; 02, L4, 18 identity and 19 place of the first unknown item; 20 to 23 zero
+unfoldable pub restWords : ℕ → ℕ → ℕ → Unknown → List ℕ
+restWords count start len unknown = count ∷ start ∷ len ∷ unknown .identity ∷ unknown .place ∷ 0 ∷ 0 ∷ 0 ∷ 0 ∷ []
 
 -- the C interface: an item's words are "identity, 1 for the long form or 0, start and length of its data"
 unfoldable pub itemWords : Item → List ℕ
@@ -58,7 +60,7 @@ itemsWords (it ∷ l) = itemWords it ++ itemsWords l
 
 -- words 0 to 23
 unfoldable pub headWords : Pdu → List ℕ
-headWords p = frontWords (p .kind) (p .tid) ++ (invokeWords (p .kind) ++ (otherWords (p .kind) ++ restWords (p .count) (p .start) (p .len)))
+headWords p = frontWords (p .kind) (p .tid) ++ (invokeWords (p .kind) ++ (otherWords (p .kind) ++ restWords (p .count) (p .start) (p .len) (unknownOf p)))
 
 -- the words of a PDU
 unfoldable pub wordsOf : Pdu → List ℕ

@@ -3,12 +3,13 @@ ghost use mathlib.Core.Path.{_≡_};
 ghost use Prim.Native.Nat.{_≤_};
 ghost use lib.ListN.{length};
 ghost use Rattle.base_lists.specs.Seq.{put};
-ghost use Rattle.codec_words.specs.Words.{frontWords, invokeWords, otherWords, itemWords, itemsWords};
+ghost use Rattle.codec_words.specs.Words.{frontWords, invokeWords, otherWords, restWords, itemWords, itemsWords};
 ghost use Rattle.codec_words.specs.Listed.{noneAt, placedAt, countFrom, listFrom, wordsFrom};
 use base_lists::flag;
 use base_tids::RcvTid;
 use codec_items::Got;
 use codec_items::Item;
+use codec_items::Unknown;
 use codec_pdu::Brief;
 use codec_pdu::Kind;
 
@@ -93,6 +94,15 @@ fn other_words(kind: Kind) -> [u64; 6]
     }
 }
 
+// Words 15 to 23: number of items, start and length of the user data, identity and place of the first unknown item; the others are zero.
+fn rest_words(count: u64, start: usize, len: usize, unknown: Unknown) -> [u64; 9]
+    ensures { λ r. ⌜ r ≡ restWords count start len unknown ⌝ }
+{
+    let identity = unknown.identity as u64;
+    let place = unknown.place as u64;
+    [count, start as u64, len as u64, identity, place, 0, 0, 0, 0]
+}
+
 fn item_words(it: Item) -> [u64; 4]
     ensures { λ r. ⌜ r ≡ itemWords it ⌝ }
 {
@@ -161,8 +171,7 @@ pub fn store_fields(fields: &mut [u64], s: &[u8], first: usize, b: Brief)
     base_lists::store_words(&mut *fields, 5, &invoke);
     let other = other_words(kind);
     base_lists::store_words(&mut *fields, 9, &other);
-    let start = b.start as u64;
-    let len = b.len as u64;
-    let rest = [count, start, len, 0, 0, 0, 0, 0, 0];
+    let unknown = b.unknown;
+    let rest = rest_words(count, b.start, b.len, unknown);
     base_lists::store_words(fields, 15, &rest);
 }

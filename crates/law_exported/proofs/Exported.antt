@@ -6,6 +6,7 @@ use mathlib.Core.List.{List, [], _∷_}
 use mathlib.Core.Logic.{_⊎_, inl, inr}
 use lib.ListN.{length}
 use lib.Dec.{ltb}
+use Rattle.base_layout.specs.Layout.{answerSize}
 use Rattle.base_lists.specs.Seq.{pick}
 use Rattle.table_record.specs.declared.State.the-variants.{Free}
 use Rattle.table_layout.specs.Table.{recordAt, settingsOf, tidnewDueOf}
@@ -30,8 +31,8 @@ use Rattle.law_data_shown.proofs.Throughout.{cells-of-none}
 use Rattle.law_demand_3.proofs.Demand.{demand-3-from, demand-3-salvaged}
 use Rattle.law_tidnew.specs.TidNew.{firstDue, Carries}
 use Rattle.law_tidnew.proofs.First.{tidnew-first}
-use Rattle.c_answers.specs.Answers.{answerNumber, answerAfter}
-use Rattle.wtp.specs.Engine.{Called, handed, orSmall}
+use Rattle.c_answers.specs.Answers.{answerNumber, answerAfter, moreWords, toldAfter}
+use Rattle.wtp.specs.Engine.{Called, handed, told, orSmall, itemTold}
 use Rattle.law_exported.specs.Session.{Exported, Keeps, entryFor, historyWith, Calls, Session, SalvagedSession}
 
 -- a refused fresh-table call leaves the table
@@ -42,23 +43,23 @@ fresh-refused (Fresh.Refused r) t settings first unmade = refl
 
 module _ (x : Exported) (k : Keeps x) where
   -- too few words: nothing changed; else what the engine promises
-  pub few : ltb (length (x .words)) 32 ≡ true → (x .seen .table ≡ x .lent .table) × (x .seen .store ≡ x .lent .store)
+  pub few : ltb (length (x .words)) answerSize ≡ true → (x .seen .table ≡ x .lent .table) × (x .seen .store ≡ x .lent .store)
   unfolding orSmall
   few e = (ap (λ (c : Called). c .table) (k .keeps) ∙ rw e refl, ap (λ (c : Called). c .store) (k .keeps) ∙ rw e refl)
 
-  pub enough : ltb (length (x .words)) 32 ≡ false → (x .seen .table ≡ promised (x .call) (x .lent) .table) × (x .seen .store ≡ promised (x .call) (x .lent) .store)
-  unfolding orSmall handed
+  pub enough : ltb (length (x .words)) answerSize ≡ false → (x .seen .table ≡ promised (x .call) (x .lent) .table) × (x .seen .store ≡ promised (x .call) (x .lent) .store)
+  unfolding orSmall handed told
   enough e = (ap (λ (c : Called). c .table) (k .keeps) ∙ rw e refl, ap (λ (c : Called). c .store) (k .keeps) ∙ rw e refl)
 
-  -- C sees exactly the history's answer: its number and its words
-  pub seen-words : ltb (length (x .words)) 32 ≡ false → (x .seen .result ≡ answerNumber (entryFor x .done .answer)) × (x .seen .answer ≡ answerAfter (entryFor x .done .answer) (x .words))
-  unfolding orSmall handed
+  -- C sees exactly the history's answer, its number and its words, and the first unknown item of the PDU that was received
+  pub seen-words : ltb (length (x .words)) answerSize ≡ false → (x .seen .result ≡ answerNumber (entryFor x .done .answer)) × (x .seen .answer ≡ toldAfter (answerNumber (entryFor x .done .answer)) (answerAfter (entryFor x .done .answer) (x .words)) (moreWords (itemTold (x .call) (x .lent))))
+  unfolding orSmall handed told
   seen-words e = (ap (λ (c : Called). c .result) (k .keeps) ∙ rw e refl, ap (λ (c : Called). c .answer) (k .keeps) ∙ rw e refl)
 
   call-run : {t₀ s₀ t s : List ℕ} {h : List Entry} → Run t₀ s₀ t s h → x .lent .table ≡ t → x .lent .store ≡ s → Run t₀ s₀ (x .seen .table) (x .seen .store) (historyWith x h)
-  call-run {t₀} {s₀} {t} {s} {h} run table store = go (ltb (length (x .words)) 32) refl
+  call-run {t₀} {s₀} {t} {s} {h} run table store = go (ltb (length (x .words)) answerSize) refl
     where
-      go : (b : Bool) → ltb (length (x .words)) 32 ≡ b → Run t₀ s₀ (x .seen .table) (x .seen .store) (pick b h (entryFor x ∷ h))
+      go : (b : Bool) → ltb (length (x .words)) answerSize ≡ b → Run t₀ s₀ (x .seen .table) (x .seen .store) (pick b h (entryFor x ∷ h))
       go true e =
           let c = few e in
           rw (c .0 ∙ table, c .1 ∙ store) run

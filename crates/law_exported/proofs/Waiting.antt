@@ -7,6 +7,7 @@ use mathlib.Core.List.{List}
 use lib.ListN.{length}
 use lib.Dec.{ltb}
 use borrow.Author.Tests.{le-ltb}
+use Rattle.base_layout.specs.Layout.{answerSize}
 use Rattle.table_layout.specs.Table.{recordAt, settingsOf}
 use Rattle.law_history.specs.Trace.{Entry}
 use Rattle.law_waiting.specs.Waiting.{ModeOn, AllTimed, OnlyFired, none, fired, apart, Freed}
@@ -27,10 +28,10 @@ exported-deadlines session on = waits session .timed on
 as-entries : {place : ℕ} {from : List ℕ} {n : ℕ} {t : List ℕ} → OnlyFiredBy place from n t → OnlyFired place from n t
 as-entries OnlyFiredBy.none = none
 as-entries {place} {from} (OnlyFiredBy.fired {n} o x k is words f) =
-    subst (OnlyFired place from (n + 1)) (sym (enough x k (le-ltb (length (x .words)) 32 words) .0)) (fired (as-entries o) (entryFor x) (record { lends = k .lends; keeps = refl }) is f)
-as-entries {place} {from} (OnlyFiredBy.apart {n} {t} o x k is same) = go (ltb (length (x .words)) 32) refl (as-entries o)
+    subst (OnlyFired place from (n + 1)) (sym (enough x k (le-ltb (length (x .words)) answerSize words) .0)) (fired (as-entries o) (entryFor x) (record { lends = k .lends; keeps = refl }) is f)
+as-entries {place} {from} (OnlyFiredBy.apart {n} {t} o x k is same) = go (ltb (length (x .words)) answerSize) refl (as-entries o)
   where
-    go : (b : Bool) → ltb (length (x .words)) 32 ≡ b → OnlyFired place from n t → OnlyFired place from n (x .seen .table)
+    go : (b : Bool) → ltb (length (x .words)) answerSize ≡ b → OnlyFired place from n t → OnlyFired place from n (x .seen .table)
     go true e so = subst (OnlyFired place from n) (sym (few x k e .0 ∙ is)) so
     go false e so =
         let after-is = enough x k e .0 in

@@ -4,6 +4,7 @@ use mathlib.Core.Path.{_≡_}
 use mathlib.Core.List.{List, [], _∷_}
 use lib.ListN.{length, getD}
 use lib.Dec.{ltb}
+use Rattle.base_layout.specs.Layout.{answerSize}
 use Rattle.base_lists.specs.Seq.{pick}
 use Rattle.table_fresh.specs.Fresh.{freshAnswer, tableAfterFresh}
 use Rattle.table_fresh.specs.declared.Fresh.the-variants.{Made}
@@ -32,7 +33,7 @@ entryFor x = record { call = x .call; lent = x .lent; done = promised (x .call) 
 
 -- where the answer has too few words nothing is done, and nothing is added to the history
 abbrev pub historyWith : Exported → List Entry → List Entry
-historyWith x h = pick (ltb (length (x .words)) 32) h (entryFor x ∷ h)
+historyWith x h = pick (ltb (length (x .words)) answerSize) h (entryFor x ∷ h)
 
 -- calls one after another from a table and a store on, with the table, the store and the history that they leave; outputs, answers, lists and data of any size
 pub data Calls (t₀ s₀ : List ℕ) : List ℕ → List ℕ → List Entry → Type 0 where

@@ -5,6 +5,9 @@ use mathlib.Core.Bool.{Bool, true, false}
 use mathlib.Core.List.{List, _∷_}
 use lib.ListN.{length}
 use lib.Dec.{ltb}
+use Rattle.step_outcome.specs.Carry.{Done}
+use Rattle.c_answers.specs.Answers.{moreWords}
+use Rattle.base_layout.specs.Layout.{answerSize}
 use Rattle.base_lists.specs.Seq.{pick}
 use Rattle.table_layout.specs.Table.{settingsOf}
 use Rattle.table_layout.specs.declared.Settings.{Settings}
@@ -16,7 +19,7 @@ use Rattle.table_salvage.specs.Salvage.{tableSalvaged}
 use Rattle.law_fresh_formed.proofs.Formed.{fresh-ok}
 use Rattle.call_plans.specs.Calls.{promised}
 use Rattle.law_history.specs.Trace.{Entry, Throughout}
-use Rattle.wtp.specs.Engine.{Called, handed, orSmall}
+use Rattle.wtp.specs.Engine.{Called, handed, told, orSmall, itemTold}
 use Rattle.law_exported.specs.Session.{Exported, Keeps, entryFor, historyWith, Calls, Session}
 use Rattle.law_exported.proofs.Exported.{salvage-leaves}
 use Rattle.law_mode_off.specs.BaseCalls.{baseCalledBy}
@@ -33,22 +36,22 @@ fresh-refused (Fresh.Refused r) t settings first unmade = refl
 module _ (x : Exported) (k : Keeps x) where
   -- MODE OFF, to C: the number, the words of the answer, and every lent octet
   pub exported-as-before : ModeOff (x .lent .table) → x .seen ≡ baseCalledBy (x .call) (x .lent) (x .words)
-  exported-as-before m = k .keeps ∙ ap (orSmall (x .lent) (x .words)) (mode-off-call (x .call) (x .lent) m)
+  exported-as-before m = k .keeps ∙ ap (λ (d : Done). orSmall (x .lent) (x .words) d (moreWords (itemTold (x .call) (x .lent)))) (mode-off-call (x .call) (x .lent) m)
 
-  few : ltb (length (x .words)) 32 ≡ true → x .seen .table ≡ x .lent .table
+  few : ltb (length (x .words)) answerSize ≡ true → x .seen .table ≡ x .lent .table
   unfolding orSmall
   few e = ap (λ (c : Called). c .table) (k .keeps) ∙ rw e refl
 
-  enough : ltb (length (x .words)) 32 ≡ false → x .seen .table ≡ promised (x .call) (x .lent) .table
-  unfolding orSmall handed
+  enough : ltb (length (x .words)) answerSize ≡ false → x .seen .table ≡ promised (x .call) (x .lent) .table
+  unfolding orSmall handed told
   enough e = ap (λ (c : Called). c .table) (k .keeps) ∙ rw e refl
 
   -- a call of a session whose table has it off afterwards had it off before
   off-call : {t : List ℕ} {h : List Entry} → (settingsOf t .limit ≡ 0 → StaysOff t h) → x .lent .table ≡ t → settingsOf (x .seen .table) .limit ≡ 0 → StaysOff (x .seen .table) (historyWith x h)
   unfolding Throughout
-  off-call {t} {h} so table off = go (ltb (length (x .words)) 32) refl
+  off-call {t} {h} so table off = go (ltb (length (x .words)) answerSize) refl
     where
-      go : (b : Bool) → ltb (length (x .words)) 32 ≡ b → StaysOff (x .seen .table) (pick b h (entryFor x ∷ h))
+      go : (b : Bool) → ltb (length (x .words)) answerSize ≡ b → StaysOff (x .seen .table) (pick b h (entryFor x ∷ h))
       go true e =
           let same : x .seen .table ≡ t = few e ∙ table in
           subst (λ (z : List ℕ). StaysOff z h) (sym same) (so (subst (λ (z : List ℕ). settingsOf z .limit ≡ 0) same off))

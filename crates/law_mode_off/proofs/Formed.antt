@@ -7,7 +7,7 @@ use mathlib.Core.Bool.{true}
 use mathlib.Core.List.{List}
 use mathlib.Core.Logic.{_⊎_, inl, inr}
 use lib.ListN.{getD}
-use Rattle.base_layout.specs.Layout.{fieldsSize, limitAt, modesAt, limitOffset, spareSize, base, spareBase}
+use Rattle.base_layout.specs.Layout.{fieldsSize, limitAt, modesAt, limitOffset, base}
 use Rattle.base_lists.proofs.StoresAndParts.{lt-or-le}
 use Rattle.base_octets.specs.Octets.{num, gets}
 use Rattle.base_octets.proofs.StoredAndRead.{getD-gets}
@@ -90,7 +90,7 @@ module _ (t : List ℕ) where
         }
 
     none-in-force : (i : ℕ) → BaseLiveOk t i → recordAt t i .limit ≡ 0
-    none-in-force i k = limit-zero t i (λ j h. k .spare j (omega arith))
+    none-in-force i k = limit-zero t i (k .spare-1)
 
     record-now : (i : ℕ) → FreeOk t i ⊎ BaseLiveOk t i → RecordOk t (settingsOf t) i
     record-now i (inl free) = inl free
@@ -99,10 +99,10 @@ module _ (t : List ℕ) where
         inr record {
           range = record {
             live = k .live;
-            bounds = record { tid = m .tid; rcr = m .rcr; aec = m .aec; exit = m .exit; deadline = m .deadline; message = m .message; tidnew = m .tidnew; limit = omega (arith, none-in-force i k); peer = m .peer };
+            bounds = record { tid = m .tid; rcr = m .rcr; aec = m .aec; exit = m .exit; deadline = m .deadline; message = m .message; tidnew = m .tidnew; limit = omega (arith, none-in-force i k); unknown = m .unknown; peer = m .peer };
           };
           flags = k .flags;
-          spare = λ j h. same-octet t (spareBase i + j) (base i + limitOffset + (4 + j)) (omega arith) ∙ k .spare (4 + j) (omega arith);
+          spare = k .spare-2;
         }
 
     record-off : (i : ℕ) → FreeOk t i ⊎ BaseLiveOk t i → Live (recordAt t i) → recordAt t i .limit ≡ 0
@@ -146,9 +146,10 @@ module _ (t : List ℕ) where
         let b = k .range .bounds in
         inr record {
           live = k .range .live;
-          bounds = record { tid = b .tid; rcr = b .rcr; aec = b .aec; exit = b .exit; deadline = b .deadline; message = b .message; tidnew = b .tidnew; peer = b .peer };
+          bounds = record { tid = b .tid; rcr = b .rcr; aec = b .aec; exit = b .exit; deadline = b .deadline; message = b .message; tidnew = b .tidnew; unknown = b .unknown; peer = b .peer };
           flags = k .flags;
-          spare = joined t (base i + limitOffset) 4 spareSize (limit-octets t i (m .records i inside (k .range .live))) (λ j h. same-octet t (base i + limitOffset + 4 + j) (spareBase i + j) (omega arith) ∙ k .spare j h);
+          spare-1 = limit-octets t i (m .records i inside (k .range .live));
+          spare-2 = k .spare;
         }
 
     -- it is a well-formed table of the base

@@ -1,4 +1,4 @@
--- With the mode off a record is written as the base writes it: 20 octets, the four after them zero as they were. Assumes nothing.
+-- With the mode off a record is written as the base writes it: the four octets after the first 20 zero as they were. Assumes nothing.
 use Prim.Native.Nat.{ℕ, zero, suc, _+_, _≤_, _<_}
 use native.Mathlib.Omega.{arith}
 use native.Mathlib.Nat.{add-zero}
@@ -10,7 +10,7 @@ use lib.ListN.{length, getD, replicate, set, length-set}
 use lib.Seq.{getD-set-same, getD-set-other, ext-getD}
 use lib.Dec.{eqb}
 use borrow.Author.Tests.{eqb-true, eqb-false}
-use Rattle.base_layout.specs.Layout.{recordSize, limitOffset, base}
+use Rattle.base_layout.specs.Layout.{recordSize, limitOffset, unknownOffset, base}
 use Rattle.base_lists.specs.Seq.{put}
 use Rattle.base_lists.proofs.StoresAndParts.{length-put, told}
 use Rattle.base_octets.specs.Octets.{enc}
@@ -50,7 +50,7 @@ put-zeros (suc n) u p room z =
     ∙ put-zeros n u (suc p) (omega arith) (λ k h. same-octet u (suc p + k) (p + (k + 1)) (omega arith) ∙ z (k + 1) (omega arith))
 
 -- the octets of a record with no waiting limit in force
-octets-then : (r : Record) → r .limit ≡ 0 → octetsOf r ≡ baseOctets r ++ replicate 4 0
+octets-then : (r : Record) → r .limit ≡ 0 → octetsOf r ≡ baseOctets r ++ (replicate 4 0 ++ (r .unknown ∷ []))
 unfolding octetsOf baseOctets enc
 octets-then r e = rw e refl
 
@@ -65,6 +65,9 @@ module _ (t : List ℕ) (i : ℕ) (room : base i + recordSize ≤ length t) (z :
       let n : length (baseOctets r) ≡ limitOffset = length-then r in
       let u : List ℕ = put t (base i) (baseOctets r) in
       let same : (k : ℕ) → k < 4 → getD u (base i + limitOffset + k) 0 ≡ 0 = λ k h. getD-after (baseOctets r) t (base i) (base i + limitOffset + k) (omega (arith, n)) ∙ z k h in
-      ap (put t (base i)) (octets-then r e) ∙ put-append (baseOctets r) (replicate 4 0) t (base i)
-      ∙ ap (λ (k : ℕ). put u (base i + k) (replicate 4 0)) n
-      ∙ put-zeros 4 u (base i + limitOffset) (rw (length-put t (base i) (baseOctets r)) (omega (arith, room))) same
+      let next : base i + limitOffset + 4 ≡ base i + unknownOffset = omega arith in
+      ap (put t (base i)) (octets-then r e) ∙ put-append (baseOctets r) (replicate 4 0 ++ (r .unknown ∷ [])) t (base i)
+      ∙ ap (λ (k : ℕ). put u (base i + k) (replicate 4 0 ++ (r .unknown ∷ []))) n
+      ∙ put-append (replicate 4 0) (r .unknown ∷ []) u (base i + limitOffset)
+      ∙ ap (λ (v : List ℕ). put v (base i + limitOffset + 4) (r .unknown ∷ [])) (put-zeros 4 u (base i + limitOffset) (rw (length-put t (base i) (baseOctets r)) (omega (arith, room))) same)
+      ∙ ap (λ (k : ℕ). put u k (r .unknown ∷ [])) next

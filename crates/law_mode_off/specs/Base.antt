@@ -17,7 +17,7 @@ use Rattle.row_columns.specs.declared.Timer.{Timer}
 use Rattle.row_columns.specs.declared.Timer.the-variants as Timer
 use Rattle.row_columns.specs.declared.Act.{Act}
 use Rattle.row_conditions.specs.Conditions.{conditionsOf}
-use Rattle.row_turns.specs.Turns.{noTimer, newRecord, rcrAfter, aecAfter, holdOnAfter, tidokSentAfter, holdOnSentAfter, exitLenAfter, storesExit, lenAfter}
+use Rattle.row_turns.specs.Turns.{noTimer, newRecord, rcrAfter, aecAfter, holdOnAfter, tidokSentAfter, holdOnSentAfter, exitLenAfter, storesExit, lenAfter, unknownAfter}
 use Rattle.row_turns.specs.declared.Given.{Given}
 use Rattle.row_turns.specs.declared.Turn.{Turn}
 use Rattle.law_rows_listed.specs.Document.{baseRow}
@@ -57,6 +57,7 @@ baseMoved state a r g s rows = record {
   deadline = baseDeadline (a .timer) (r .deadline) (g .time) s (intervalOf rows (classOf state) (rcrAfter (a .count) (r .rcr)));
   len = lenAfter (a .cell) (r .len) (g .len);
   limit = 0;
+  unknown = unknownAfter (a .item) (r .unknown) (g .unknown);
 }
 
 -- 01, "Events": the base's record after a row, free where it ends

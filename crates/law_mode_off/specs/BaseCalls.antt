@@ -35,7 +35,8 @@ use Rattle.call_receive.specs.Receives.{receiveTests, takenGiven, takenCall, ar
 use Rattle.call_timer.specs.Timers.{timerTests, firedGiven, firedCall}
 use Rattle.call_fire.specs.Fires.{asFire, fireTests}
 use Rattle.call_plans.specs.Calls.{Call, asRequest, asAnswer, asResult, asAbort, storeSize, outputSize}
-use Rattle.wtp.specs.Engine.{Called, orSmall}
+use Rattle.c_answers.specs.Answers.{moreWords}
+use Rattle.wtp.specs.Engine.{Called, orSmall, itemTold}
 use Rattle.law_mode_off.specs.Base.{baseRowAt, baseLiveStep, baseOpeningStep}
 use Rattle.law_mode_off.specs.BaseFormed.{baseTableChanged}
 
@@ -119,4 +120,4 @@ basePromised c l = baseOutcome l (basePlanFor c l)
 
 -- 01, "How the answers are held": what a caller of the base's exported function sees
 abbrev pub baseCalledBy : Call → Lent → List ℕ → Called
-baseCalledBy c l words = orSmall l words (basePromised c l)
+baseCalledBy c l words = orSmall l words (basePromised c l) (moreWords (itemTold c l))

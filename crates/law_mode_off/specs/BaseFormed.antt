@@ -4,14 +4,14 @@ use mathlib.Core.Path.{_≡_}
 use mathlib.Core.List.{List, [], _∷_, _++_}
 use mathlib.Core.Logic.{_⊎_}
 use lib.ListN.{getD}
-use Rattle.base_layout.specs.Layout.{limitAt, limitOffset, tidnewDueAt, headerSpareAt, headerSpareSize, base, flagsAt, timeBound, deadlineBound, tidBound, cachedBound, peers, exitBound, cellSize, outputLeast, flagsBound}
+use Rattle.base_layout.specs.Layout.{limitAt, limitOffset, unknownOffset, spareSize, spareBase, tidnewDueAt, headerSpareAt, headerSpareSize, base, flagsAt, timeBound, deadlineBound, tidBound, cachedBound, peers, exitBound, cellSize, outputLeast, flagsBound}
 use Rattle.base_lists.specs.Seq.{bit, put}
 use Rattle.base_octets.specs.Octets.{enc}
 use Rattle.table_record.specs.Record.{stateNumber, roleOf, flagsOf}
 use Rattle.table_record.specs.declared.Record.{Record}
 use Rattle.table_layout.specs.Table.{count, clockOf, genTidOf, settingsOf, intervalsOf, cachedOf, recordAt, clearRecord, putClock}
 use Rattle.table_layout.specs.declared.Settings.{Settings}
-use Rattle.table_ranges.specs.Ranges.{Zeros}
+use Rattle.table_ranges.specs.Ranges.{UnknownOk, Zeros}
 use Rattle.table_header_ok.specs.Header.{SettingsOk, RowsOk}
 use Rattle.table_record_ok.specs.OneRecord.{Live, FreeOk, tidnewBound}
 use Rattle.table_names_ok.specs.Names.{Unique}
@@ -25,9 +25,9 @@ use Rattle.step_commit.specs.declared.Changes.{Changes}
 abbrev pub baseSpare : ℕ
 baseSpare = 5
 
--- docs/TABLE.md, before L6: 28 spare octets in a record, after the length of its message
+-- docs/TABLE.md, without L6: 4 spare octets in a record, between the length of its message and the identity of L4
 abbrev pub baseRecordSpare : ℕ
-baseRecordSpare = 28
+baseRecordSpare = 4
 
 -- 01: "all fields are in range", those before the records
 pub record BaseHeaderOk (t : List ℕ) : Type 0 where
@@ -49,6 +49,7 @@ pub record BaseBounded (s : Settings) (r : Record) : Type 0 where
   pub deadline : r .deadline ≤ deadlineBound
   pub message : r .len ≤ cellSize
   pub tidnew : bit (r .tidnew) ≤ tidnewBound (roleOf (r .state))
+  pub unknown : UnknownOk (r .unknown)
   pub peer : r .peer < peers
 
 -- 01: a live record is in range, its spare bits and octets zero
@@ -56,7 +57,8 @@ pub record BaseLiveOk (t : List ℕ) (i : ℕ) : Type 0 where
   pub live : Live (recordAt t i)
   pub bounds : BaseBounded (settingsOf t) (recordAt t i)
   pub flags : getD t (flagsAt i) 0 ≤ flagsBound
-  pub spare : Zeros t (base i + limitOffset) baseRecordSpare
+  pub spare-1 : Zeros t (base i + limitOffset) baseRecordSpare
+  pub spare-2 : Zeros t (spareBase i) spareSize
 
 -- 01: "A table is well formed when all fields are in range (..), free records are zero and no two live records share role, peer and TID"
 pub record BaseFormed (t : List ℕ) : Type 0 where
@@ -71,15 +73,15 @@ pub record BaseFitting (t : List ℕ) (store output : ℕ) : Type 0 where
   pub cells : store ≡ count t * cellSize
   pub room : outputLeast ≤ output
 
--- docs/TABLE.md, before L6: the 20 octets of a record's fields
+-- docs/TABLE.md, without L6: the first 20 octets of a record's fields
 unfoldable pub baseOctets : Record → List ℕ
 baseOctets r =
     (stateNumber (r .state) ∷ r .peer ∷ [])
     ++ (enc 2 (r .tid) ++ ((r .rcr .0 ∷ r .aec .0 ∷ flagsOf r ∷ r .«exit_len» ∷ []) ++ (enc 8 (r .deadline) ++ enc 4 (r .len))))
 
--- docs/TABLE.md, before L6: the table with them written at place i
+-- docs/TABLE.md, without L6: the table with them, and the identity of L4, written at place i
 unfoldable pub basePut : List ℕ → ℕ → Record → List ℕ
-basePut t i r = put t (base i) (baseOctets r)
+basePut t i r = put (put t (base i) (baseOctets r)) (base i + unknownOffset) (r .unknown ∷ [])
 
 -- 01: "A freed record is zeroed": the record at a place as it was, with other fields, or freed
 unfoldable pub baseRecordChanged : List ℕ → ℕ → Change → List ℕ

@@ -5,6 +5,7 @@ use mathlib.Core.Path.{_≡_, refl, sym, _∙_}
 use mathlib.Core.List.{List}
 use mathlib.Core.Logic.{_⊎_, inl, inr}
 use lib.ListN.{length}
+use Rattle.call_receive.proofs.Identity.{identity-fine}
 use Rattle.table_record.specs.Record.{stateNumber}
 use Rattle.table_record.specs.declared.Role.the-variants.{Responder}
 use Rattle.table_layout.specs.Table.{count}
@@ -68,7 +69,7 @@ module _ (l : Lent) (time peer : ℕ) (f : Fits l) (step : Step) (a : Accepted (
 
     its-given : GivenOk (openedGiven time p)
     unfolding openedGiven
-    its-given = record { time = a .enters .bounded; len = kept-small p; exit-len = omega arith }
+    its-given = record { time = a .enters .bounded; len = kept-small p; exit-len = omega arith; unknown = identity-fine (l .given) }
 
     nothing-opened : Sound l itsStep → CountsNone (holder .class) opening → Quiet (entryOf call l itsStep)
     unfolding arriverOf

@@ -8,6 +8,7 @@ use mathlib.Core.Logic.{_⊎_, inl, inr}
 use lib.ListN.{length}
 use lib.Dec.{eqb}
 use borrow.Author.Tests.{eqb-false}
+use Rattle.table_ranges.specs.Ranges.{none as no-identity}
 use Rattle.base_layout.specs.Layout.{peers}
 use Rattle.base_lists.specs.Seq.{pick}
 use Rattle.table_record.specs.declared.State.the-variants.{Free}
@@ -96,7 +97,7 @@ module _ (l : Lent) (time peer class : ℕ) (userAck : Bool) (f : Fits l) (a : A
 
   given-ok : GivenOk (requestGiven q)
   unfolding requestGiven
-  given-ok = record { time = a .enters .bounded; len = a .data-fits; exit-len = omega arith }
+  given-ok = record { time = a .enters .bounded; len = a .data-fits; exit-len = omega arith; unknown = no-identity refl }
 
   with-record : (o : Opening) → Asks o → Live (openedTurn t o (requester t place q) (requestGiven q) .after) → Sound l (stepWith o) → place < count t → recordAt t place .state ≡ Free
       → Opened (entryOf call l (stepWith o))

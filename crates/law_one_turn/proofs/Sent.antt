@@ -16,7 +16,7 @@ use Rattle.step_arrivals.specs.Arrivals.{tidOf}
 use Rattle.row_columns.specs.declared.Send.{Send}
 use Rattle.row_columns.specs.declared.Send.the-variants as Send
 use Rattle.law_rows.specs.Shown.{SendProper}
-use Rattle.step_sending.specs.Octets.{withTid, exitOctets, octetsSent}
+use Rattle.step_sending.specs.Octets.{withTid, octetsSent, ackOctets}
 use Rattle.step_sending.specs.Sending as Sending
 use Rattle.step_sending.specs.declared.Sender.{Sender}
 use Rattle.step_sending.proofs.Octets.{tid-whole}
@@ -134,13 +134,13 @@ plain-type Initiator false = refl
 plain-type Responder true = refl
 plain-type Responder false = refl
 
--- with exit information
-exit-type : (role : Role) (again : Bool) → ofType role ((0x98 + bit again) / 8 % 16) (0x98 + bit again) ≡ none
+-- with items
+items-type : (role : Role) (again : Bool) → ofType role ((0x98 + bit again) / 8 % 16) (0x98 + bit again) ≡ none
 unfolding ofType
-exit-type Initiator true = refl
-exit-type Initiator false = refl
-exit-type Responder true = refl
-exit-type Responder false = refl
+items-type Initiator true = refl
+items-type Initiator false = refl
+items-type Responder true = refl
+items-type Responder false = refl
 
 -- an Abort's type is its three flags
 abort-flags : (role : Role) (type first kind : ℕ) → type ≡ 4 → first % 8 ≡ kind → ofType role type first ≡ aborted (bit (eqb kind 1))
@@ -151,18 +151,22 @@ abort-flags Responder type first kind d e = rw (d, e) refl
 abort-type : (role : Role) (kind : ℕ) → kind ≤ 1 → ofType role ((0x20 + kind) / 8 % 16) (0x20 + kind) ≡ aborted (bit (eqb kind 1))
 abort-type role kind h = abort-flags role ((0x20 + kind) / 8 % 16) (0x20 + kind) kind (omega arith) (omega arith)
 
+-- a plain Ack counts for nothing, with items or without
+ack-counts : (n : Name) (peer : ℕ) (by : Sender) → by .tid ≤ tidBound → (s : List ℕ) (again known bare : Bool) → ofSent n peer (ackOctets s again known bare by) ≡ pick (isNamed n (by .role) peer (by .tid)) none none
+unfolding ackOctets
+ack-counts n peer by h s again true true = counted n peer by h _ _ _ (plain-type (by .role) again)
+ack-counts n peer by h s again true false = counted n peer by h _ _ _ (items-type (by .role) again)
+ack-counts n peer by h s again false true = counted n peer by h _ _ _ (items-type (by .role) again)
+ack-counts n peer by h s again false false = counted n peer by h _ _ _ (items-type (by .role) again)
+
 pub sent-counts : (n : Name) (peer : ℕ) (by : Sender) → by .tid ≤ tidBound → (s : List ℕ) (send : Send) → sendsAs (by .role) send ≡ true → SendProper send
     → ofSent n peer (octetsSent s send by) ≡ pick (isNamed n (by .role) peer (by .tid)) (ofSend send) none
 unfolding octetsSent
 sent-counts n peer by h s Send.Nothing e p = nothing-counts n peer by h
 sent-counts n peer by h s (Send.Invoke again) e p = counted n peer by h _ _ _ (invoke-type (by .role) again e)
 sent-counts n peer by h s (Send.Tidok again) e p = counted n peer by h _ _ _ (tidok-type (by .role) again e)
-sent-counts n peer by h s (Send.LastAck again) e p = go (eqb (by .«exit_len») 0)
-  where
-    go : (b : Bool) → ofSent n peer (pick b (withTid by (0x18 + bit again) []) (withTid by (0x98 + bit again) (exitOctets s by))) ≡ pick (isNamed n (by .role) peer (by .tid)) none none
-    go true = counted n peer by h _ _ _ (plain-type (by .role) again)
-    go false = counted n peer by h _ _ _ (exit-type (by .role) again)
-sent-counts n peer by h s (Send.HoldOn again) e p = counted n peer by h _ _ _ (plain-type (by .role) again)
+sent-counts n peer by h s (Send.LastAck again) e p = ack-counts n peer by h s again (eqb (by .unknown) 0) (eqb (by .«exit_len») 0)
+sent-counts n peer by h s (Send.HoldOn again) e p = ack-counts n peer by h s again (eqb (by .unknown) 0) true
 sent-counts n peer by h s (Send.Tidve again) e p = counted n peer by h _ _ _ (tidve-type (by .role) again e)
 sent-counts n peer by h s (Send.Result again) e p = counted n peer by h _ _ _ (result-type (by .role) again e)
 sent-counts n peer by h s (Send.Abort kind reason) e p = counted n peer by h _ _ _ (abort-type (by .role) kind p)

@@ -7,6 +7,7 @@ use mathlib.Core.Bool.{Bool, true, false}
 use mathlib.Core.Logic.{_⊎_, inl, inr}
 use lib.ListN.{length}
 use lib.Dec.{eqb}
+use Rattle.call_receive.proofs.Identity.{identity-fine}
 use Rattle.base_layout.specs.Layout.{exitBound}
 use Rattle.base_lists.specs.Seq.{pick}
 use Rattle.base_lists.proofs.StoresAndParts.{true-false}
@@ -173,7 +174,7 @@ module _ (l : Lent) (time peer : ℕ) (exit : length (l .exit) ≤ exitBound) (s
     unfolding unmatchedStep openedStep openedGiven openedCall arriverOf CountOk
     unmatched-sound =
         opening-sound l opening holder (openedGiven time p) Unchanged (openedCall p) (a .enters .fitting)
-        (record { time = a .enters .bounded; len = kept-small p; exit-len = omega arith })
+        (record { time = a .enters .bounded; len = kept-small p; exit-len = omega arith; unknown = identity-fine (l .given) })
         (record { message-inside = kept-inside (l .given); message-fits = kept-small p; exit-fits = exit })
         tt
         (free-place t (a .enters .fitting .formed)) (a .known) (u .bound) (omega arith) (omega arith)

@@ -6,6 +6,7 @@ use mathlib.Core.Bool.{Bool, true, false}
 use mathlib.Core.List.{List}
 use lib.ListN.{length}
 use lib.Dec.{eqb}
+use Rattle.table_ranges.specs.Ranges.{none as no-identity}
 use Rattle.base_layout.specs.Layout.{exitBound}
 use Rattle.base_lists.specs.Seq.{pick}
 use Rattle.base_lists.proofs.StoresAndParts.{bit-le}
@@ -76,7 +77,7 @@ module _ (l : Lent) (q : Request) (given : q .len ≡ length (l .given)) (exit :
   request-sound =
       opening-sound l (requestedOf (q .class % 256)) (requester (l .table) place q) (requestGiven q) (countedBy (l .table) q) (requestCall q)
       (a .enters .fitting)
-      (record { time = a .enters .bounded; len = a .data-fits; exit-len = omega arith })
+      (record { time = a .enters .bounded; len = a .data-fits; exit-len = omega arith; unknown = no-identity refl })
       (record { message-inside = omega arith; message-fits = a .data-fits; exit-fits = exit })
       (counted (l .table) q)
       inside (omega arith) (a .enters .fitting .formed .header .gen-tid) (rw (requested-state (q .class % 256)) (bit-le (requester (l .table) place q .tidnew))) (omega arith)

@@ -5,3 +5,4 @@ pub mod Walks
 pub mod Judged
 pub mod Verdicts
 pub mod Order
+pub mod Unknown

@@ -42,7 +42,7 @@ module _ (s : List ℕ) where
   abbrev pub found : Items
   found = pick (leb 128 (getD s 0 0)) (walkFrom 16 s (fixedLength s) (replicate 16 noItem)) (noItems Sound (fixedLength s))
 
-  reached-con : {k at : ℕ} → Reached s k at → 128 ≤ getD s 0 0
+  pub reached-con : {k at : ℕ} → Reached s k at → 128 ≤ getD s 0 0
   reached-con (items-follow c) = c
   reached-con (another r w c) = reached-con r
 

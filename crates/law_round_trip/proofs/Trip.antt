@@ -8,6 +8,7 @@ use mathlib.Core.Bool.{true}
 use mathlib.Core.Logic.{_⊎_, inl, inr}
 use lib.ListN.{length, getD, replicate, getD-replicate, length-append}
 use lib.Seq.{getD-append-add, length-take-le}
+use Rattle.base_layout.specs.Layout.{answerSize}
 use Rattle.base_lists.specs.Seq.{put}
 use Rattle.base_lists.proofs.StoresAndParts.{true-false, lt-or-le}
 use Rattle.codec_items.specs.Items.{noItem}
@@ -36,7 +37,7 @@ unused-at l n i e h g =
     let at : length l + (i - n) ≡ i = omega arith in
     rw (← at) (getD-append-add l (replicate (16 - n) noItem) (i - n) noItem ∙ getD-replicate (16 - n) (i - n) noItem noItem (omega arith))
 
-module _ (b rest out answer : List ℕ) (octets : Octets b) (sound : soundOf (pduOf b .kind) ≡ true) (room : 1500 ≤ length out) (words : 32 ≤ length answer) where
+module _ (b rest out answer : List ℕ) (octets : Octets b) (sound : soundOf (pduOf b .kind) ≡ true) (room : 1500 ≤ length out) (words : answerSize ≤ length answer) where
   abbrev p : Pdu
   p = pduOf b
 
@@ -83,6 +84,6 @@ module _ (b rest out answer : List ℕ) (octets : Octets b) (sound : soundOf (pd
   pub round-trip : RoundTrip b rest out answer
   unfolding writeNumber writeOutput writtenAnswer outputAfter
   round-trip = record {
-    accepted = rw (le-ltb (length answer) 32 words, planned) (answer-is (p .kind) (length (octetsOf b p)) sound);
-    written = rw (le-ltb (length answer) 32 words, planned, sound) (ap (put out 0) (writes-back b octets sound));
+    accepted = rw (le-ltb (length answer) answerSize words, planned) (answer-is (p .kind) (length (octetsOf b p)) sound);
+    written = rw (le-ltb (length answer) answerSize words, planned, sound) (ap (put out 0) (writes-back b octets sound));
   }

@@ -16,6 +16,7 @@ use Rattle.table_record.specs.declared.Record.{Record}
 use Rattle.table_record.specs.declared.Rcr.{Rcr}
 use Rattle.table_record.specs.declared.Aec.{Aec}
 use Rattle.table_layout.specs.declared.Settings.{Settings}
+use Rattle.table_ranges.specs.Ranges.{UnknownOk, none}
 use Rattle.row_events.specs.declared.Event.{Event}
 use Rattle.row_events.specs.declared.Conditions.{Conditions}
 use Rattle.row_events.specs.declared.Opening.{Opening}
@@ -34,7 +35,7 @@ use Rattle.row_columns.specs.declared.ExitInfo.the-variants as ExitInfo
 use Rattle.row_columns.specs.declared.Act.{Act}
 use Rattle.row_entries.specs.Acts.{actOf, openingAct}
 use Rattle.table_tids.specs.Tids.{intervalOf}
-use Rattle.row_turns.specs.Turns.{upOf, rcrAfter, aecAfter, exitLenAfter, lenAfter, stoppedAt, deadlineAfter, limitAfter, newRecord, movedTo, recordAfter, turnOf, rowTurn, openingTurn}
+use Rattle.row_turns.specs.Turns.{upOf, rcrAfter, aecAfter, exitLenAfter, lenAfter, stoppedAt, deadlineAfter, limitAfter, unknownAfter, newRecord, movedTo, recordAfter, turnOf, rowTurn, openingTurn}
 use Rattle.row_turns.specs.declared.Given.{Given}
 use Rattle.law_rows.specs.Shown.{actAt, livingState}
 use Rattle.table_record_ok.specs.OneRecord.{tidnewBound, Bounded}
@@ -102,6 +103,10 @@ len-within : (cell : Bool) (was given : ℕ) → was ≤ cellSize → given ≤ 
 len-within true was given h k = k
 len-within false was given h k = h
 
+unknown-within : (item : Bool) (was came : ℕ) → UnknownOk was → UnknownOk came → UnknownOk (unknownAfter item was came)
+unknown-within true was came h k = k
+unknown-within false was came h k = h
+
 module _ (g : Given) (s : Settings) (rows : List (List ℕ)) (within : Within g s rows) where
   interval-within : (class : ℕ) (n : Rcr) → intervalOf rows class n ≤ intervalBound
   unfolding intervalOf
@@ -136,7 +141,7 @@ module _ (g : Given) (s : Settings) (rows : List (List ℕ)) (within : Within g 
   pub new-in-range : (peer tid : ℕ) (userAck tidnew : Bool) → peer < peers → tid ≤ tidBound → Bounded s (newRecord peer tid userAck tidnew)
   unfolding newRecord
   new-in-range peer tid userAck tidnew p t =
-      record { tid = t; rcr = omega arith; aec = omega arith; exit = omega arith; deadline = omega arith; message = omega arith; tidnew = bit-le tidnew; limit = omega arith; peer = p }
+      record { tid = t; rcr = omega arith; aec = omega arith; exit = omega arith; deadline = omega arith; message = omega arith; tidnew = bit-le tidnew; limit = omega arith; unknown = none refl; peer = p }
 
   module _ (r : Record) (a : Act) (ok : Bounded s r) (counts : allowed (a .count) (ltb (r .rcr .0) (s .«rcr_max»)) (ltb (r .aec .0) (s .«aec_max»)) ≡ true) where
     moved-in-range : (state : State) → bit (r .tidnew) ≤ tidnewBound (roleOf state) → Bounded s (movedTo state a r g s rows)
@@ -150,6 +155,7 @@ module _ (g : Given) (s : Settings) (rows : List (List ℕ)) (within : Within g 
       message = len-within (a .cell) (r .len) (g .len) (ok .message) (within .len);
       tidnew = tidnew;
       limit = limit-within (a .timer) (r .limit) (ok .limit);
+      unknown = unknown-within (a .item) (r .unknown) (g .unknown) (ok .unknown) (within .unknown);
       peer = ok .peer;
     }
 

@@ -1,5 +1,6 @@
 pub mod Columns
 pub mod SameActs
 pub mod Deadlines
+pub mod Identities
 pub mod Reasons
 pub mod Counters

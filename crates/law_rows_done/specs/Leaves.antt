@@ -1,6 +1,7 @@
--- What a row leaves and shows, as numbers: the record's deadline and counters, and the type and reason of an abort.
+-- What a row leaves and shows, as numbers: the record's deadline, counters and identity of an unknown item, and the type and reason of an abort.
 use Prim.Native.Nat.{ℕ, _+_, _-_, _≤_}
 use mathlib.Core.Path.{_≡_}
+use mathlib.Core.Bool.{Bool, false}
 use mathlib.Core.List.{List, []}
 use lib.ListN.{getD}
 use lib.Dec.{ltb}
@@ -12,6 +13,8 @@ use Rattle.row_events.specs.Events.{sameRow, sameOpening}
 use Rattle.row_events.specs.declared.Row.{Row}
 use Rattle.row_events.specs.declared.Row.the-variants.{PeerAborts}
 use Rattle.row_events.specs.declared.Opening.{Opening}
+use Rattle.row_columns.specs.declared.Next.{Next}
+use Rattle.row_columns.specs.declared.Next.the-variants.{Stays, Ends, Goes}
 use Rattle.row_columns.specs.declared.Count.{Count}
 use Rattle.row_columns.specs.declared.Count.the-variants as Count
 use Rattle.row_columns.specs.declared.Timer.{Timer}
@@ -79,6 +82,25 @@ aecBy Count.AecUp n = n + 1
 -- both counters of the record that a turn leaves live
 abbrev pub Counted : (before : Record) → Count → (after : Record) → Type 0
 Counted before count after = 1 ≤ stateNumber (after .state) → (after .rcr .0 ≡ rcrBy count (before .rcr .0)) × (after .aec .0 ≡ aecBy count (before .aec .0))
+
+-- whether a row, or an opening, takes the identity of the PDU that came, and where it leaves the record
+abbrev pub takesItem : Row → Bool
+takesItem row = listed sameRow Live.itemLines row false
+
+abbrev pub openingTakesItem : Opening → Bool
+openingTakesItem opening = listed sameOpening Opening.itemLines opening false
+
+abbrev pub nextOf : Row → Next
+nextOf row = listed sameRow Live.nextLines row Stays
+
+abbrev pub openingNext : Opening → Next
+openingNext opening = listed sameOpening Opening.nextLines opening Ends
+
+-- 02, L4: "The record keeps that identity from the Invoke that opened it or the Result it took": that of the PDU that came where it is taken, else as it was; a record that ended has none
+abbrev pub unknownBy : Next → (takes : Bool) (was came : ℕ) → ℕ
+unknownBy Stays takes was came = pick takes came was
+unknownBy Ends takes was came = 0
+unknownBy (Goes state) takes was came = pick takes came was
 
 -- "the reason sent, or 8 if none is sent"
 abbrev pub reasonSent : Send → ℕ

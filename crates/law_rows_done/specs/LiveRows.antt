@@ -213,6 +213,13 @@ lastTidLines =
     (Verified1 ∷ Verified2 ∷ [], Cache.SetIfNone) ∷
     []
 
+-- what takes the identity of the first unknown item of the PDU that came
+abbrev pub itemLines : List (List Row × Bool)
+itemLines =
+    -- 02, L4: "The record keeps that identity from [..] the Result it took"
+    (ResultConfirms ∷ ResultTaken ∷ [], true) ∷
+    []
+
 -- what document 01 says that a row does. What no list names stays: "A repeat sets RID and alters nothing else", "ignored", and 9 changes nothing
 unfoldable pub documentAct : Row → (tidok : Bool) (kind reason : ℕ) → Act
 documentAct row tidok kind reason = record {
@@ -226,4 +233,5 @@ documentAct row tidok kind reason = record {
   second = listed sameRow secondLines row Indication.Nothing;
   cell = listed sameRow cellLines row false;
   cache = listed sameRow lastTidLines row Cache.Same;
+  item = listed sameRow itemLines row false;
 }

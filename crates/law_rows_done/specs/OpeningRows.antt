@@ -99,6 +99,13 @@ lastTidLines =
     (Restarted1 ∷ Restarted2 ∷ [], Cache.Drop) ∷
     []
 
+-- what takes the identity of the first unknown item of the PDU that came
+abbrev pub itemLines : List (List Opening × Bool)
+itemLines =
+    -- 02, L4: "The record keeps that identity from the Invoke that opened it", shown at once or verified first
+    (Valid1 ∷ Valid2 ∷ ToVerify1 ∷ ToVerify2 ∷ Restarted1 ∷ Restarted2 ∷ [], true) ∷
+    []
+
 -- what document 01 says that it does; what no list names opens no record ("class 0 ends", "without record", "ignored"), and no opening has an answer's exit information or a second indication
 unfoldable pub documentOpeningAct : Opening → Act
 documentOpeningAct opening = record {
@@ -112,4 +119,5 @@ documentOpeningAct opening = record {
   second = Indication.Nothing;
   cell = listed sameOpening cellLines opening false;
   cache = listed sameOpening lastTidLines opening Cache.Same;
+  item = listed sameOpening itemLines opening false;
 }

@@ -1,2 +1,3 @@
 pub mod SentReads
 pub mod BySource
+pub mod ItemsSaid

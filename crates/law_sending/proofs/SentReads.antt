@@ -8,7 +8,7 @@ use Rattle.law_reads_back.specs.ReadsBack.{meaningOf}
 use Rattle.law_reads_back.proofs.ReadsItself.{reads-itself}
 use Rattle.row_columns.specs.declared.Send.{Send}
 use Rattle.step_sending.specs.declared.Sender.{Sender}
-use Rattle.step_sending.specs.Sending.{sentPdu}
+use Rattle.step_sending.specs.Sending.{partsIn, sentPdu}
 use Rattle.step_sending.specs.Octets.{FitSend, Sendable}
 use Rattle.step_sending.proofs.Octets.{octets-are}
 use Rattle.step_sending.proofs.Fits.{sendable}
@@ -17,6 +17,6 @@ use Rattle.law_sending.specs.SendingLaws.{ReadsAsMeant}
 pub sent-reads : (s : List ℕ) (send : Send) (by : Sender) → FitSend s send by
     → ReadsAsMeant s send by
 sent-reads s send by f =
-    let w : Sendable s (sentPdu send by) = sendable s send by f in
+    let w : Sendable (partsIn s by) (sentPdu send by) = sendable s send by f in
     ap (λ (o : List ℕ). meaningOf o (pduOf o)) (sym (octets-are s send by f))
-    ∙ reads-itself s (sentPdu send by) (w .fits) (w .no-fault) (omega (arith, w .room-enough))
+    ∙ reads-itself (partsIn s by) (sentPdu send by) (w .fits) (w .no-fault) (omega (arith, w .room-enough))

@@ -1,1 +1,2 @@
 pub mod SendingLaws
+pub mod ItemsSaid

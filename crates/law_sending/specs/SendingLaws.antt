@@ -11,12 +11,12 @@ use Rattle.row_columns.specs.declared.Send.the-variants.{Nothing, Invoke, Tidok
 use Rattle.step_sending.specs.declared.Sender.{Sender}
 use Rattle.step_sending.specs.declared.Source.{Source}
 use Rattle.step_sending.specs.declared.Source.the-variants as Source
-use Rattle.step_sending.specs.Sending.{sentPdu}
+use Rattle.step_sending.specs.Sending.{partsIn, sentPdu}
 use Rattle.step_sending.specs.Octets.{octetsSent}
 
 -- what is sent, read again, is the PDU that was meant
 abbrev pub ReadsAsMeant : List ℕ → Send → Sender → Type 0
-ReadsAsMeant s send by = meaningOf (octetsSent s send by) (pduOf (octetsSent s send by)) ≡ meaningOf s (sentPdu send by)
+ReadsAsMeant s send by = meaningOf (octetsSent s send by) (pduOf (octetsSent s send by)) ≡ meaningOf (partsIn s by) (sentPdu send by)
 
 -- a message of at most 1,024 octets, or exit information of at most 128, lies in the source that is named
 abbrev pub FitSource : Source → List ℕ → Sender → Type 0

@@ -21,7 +21,7 @@ use Rattle.table_record.specs.declared.Role.the-variants.{Initiator, Responder}
 use Rattle.row_columns.specs.declared.Send.{Send}
 use Rattle.row_columns.specs.declared.Send.the-variants as Send
 use Rattle.step_sending.specs.declared.Sender.{Sender}
-use Rattle.step_sending.specs.Sending.{sentPdu}
+use Rattle.step_sending.specs.Sending.{partsIn, sentPdu}
 use Rattle.table_tids.specs.Tids.{testOf}
 use Rattle.table_tids.specs.declared.Test.{Test}
 use Rattle.table_tids.specs.declared.Test.the-variants.{Valid, Verified}
@@ -64,7 +64,7 @@ Says (writes source p octets) = _≡_ {A = Verdict × List ℕ} (faultOf p, octe
 Says (malformed octets d) = pduOf octets ≡ blankPdu (Wrong d)
 Says (separates datagram split) = partsOf datagram ≡ split
 Says (tests last tid test) = testOf (last + 1) tid ≡ test
-Says (sends source send by octets) = octetsOf source (sentPdu send by) ≡ octets
+Says (sends source send by octets) = octetsOf (partsIn source by) (sentPdu send by) ≡ octets
 Says (unmatched octets sent) =
     (l : Lent) (time peer : ℕ) (step : Step) → l .given ≡ octets → namedOf (l .table) (count (l .table)) Initiator peer (tidOf octets % tidCount) ≡ Nothing
     → receivePlan (l .table) (length (l .store)) (length (l .output)) time peer (l .given) ≡ Go step → sentThen l step ≡ sent
@@ -138,7 +138,7 @@ firstRepeatPdu = plain (Invoke true true true 0 true false 2) 5 4
 
 -- TID 5, class 2, no message, with or without TIDnew, and exit information of the first n octets of its source
 abbrev pub sender : Role → Bool → ℕ → Sender
-sender role tidnew n = record { role = role; tid = 5; class = 2; «user_ack» = false; tidnew = tidnew; start = 0; len = 0; «exit_start» = 0; «exit_len» = n }
+sender role tidnew n = record { role = role; tid = 5; class = 2; «user_ack» = false; tidnew = tidnew; start = 0; len = 0; «exit_start» = 0; «exit_len» = n; unknown = 0 }
 
 -- the cases; the last Ack is written from its own octets and from its exit information alone
 abbrev pub table : List Row

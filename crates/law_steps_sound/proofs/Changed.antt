@@ -51,6 +51,7 @@ within t g w ok = record {
   time = ok .time;
   len = ok .len;
   exitLen = ok .exit-len;
+  unknown = ok .unknown;
   a = w .header .settings .interval-a .most;
   w = w .header .settings .interval-w .most;
   limit = limit-most (w .header .modes);

@@ -53,9 +53,9 @@ module _ (l : Lent) (c : Call) (h : Holder) (f : Fits l) (ok : LentOk l c) (insi
   source-fits Source.Cell by s n x e = rw (s, n) (omega (arith, f .cells), message)
   source-fits Source.Table by s n x e = rw x (omega (arith, f .formed .sized .whole), e)
 
-  pub sends-fit : (turn : Turn) → SendProper (turn .send) → ClassFits (turn .send) (h .class) → turn .after .«exit_len» ≤ exitBound
+  pub sends-fit : (turn : Turn) → SendProper (turn .send) → ClassFits (turn .send) (h .class) → turn .after .«exit_len» ≤ exitBound → turn .after .unknown < 16
       → FitOut (l .given) (l .store) (l .table) (turn .send) (senderOf turn h c)
   unfolding FitOut senderOf messageOf
-  sends-fit turn p k e some =
-      by-source _ (turn .send) (senderOf turn h c) (proper-of (turn .send) some p) k
+  sends-fit turn p k e u some =
+      by-source _ (turn .send) (senderOf turn h c) (proper-of (turn .send) some p) k u
       (source-fits (sourceOf (turn .send)) (senderOf turn h c) refl refl refl e)

@@ -16,6 +16,7 @@ use Rattle.law_formed_kept.specs.UnusedName.{Unused}
 use Rattle.row_events.specs.declared.Event.{Event}
 use Rattle.row_events.specs.declared.Opening.{Opening}
 use Rattle.row_entries.specs.Acts.{openingAct}
+use Rattle.table_ranges.specs.Ranges.{UnknownOk, none, some}
 use Rattle.table_record_ok.specs.OneRecord.{tidnewBound}
 use Rattle.law_rows.specs.Shown.{livingState, SendProper}
 use Rattle.law_rows.proofs.Rows.{proper, proper-opening}
@@ -45,9 +46,9 @@ cell-fits l c f ok true place h = (omega (arith, f .cells, ok .message-fits), ok
 cell-fits l c f ok false place h = tt
 
 step-sound : (l : Lent) (turn : Turn) (changes : Changes) (h : Holder) (c : Call) → Fits l → LentOk l c → changes .place ≡ h .place → h .len ≤ cellSize
-    → SendProper (turn .send) → ClassFits (turn .send) (h .class) → turn .after .«exit_len» ≤ exitBound → Allowed (l .table) changes (l .exit) → Sound l (stepOf turn changes h c)
+    → SendProper (turn .send) → ClassFits (turn .send) (h .class) → turn .after .«exit_len» ≤ exitBound → turn .after .unknown < 16 → Allowed (l .table) changes (l .exit) → Sound l (stepOf turn changes h c)
 unfolding stepOf
-step-sound l turn changes h c f ok e message p k x allowed =
+step-sound l turn changes h c f ok e message p k x u allowed =
     let inside : h .place < count (l .table) = rw e at (allowed .place) in
     record {
       allowed = allowed;
@@ -56,7 +57,7 @@ step-sound l turn changes h c f ok e message p k x allowed =
         peer = allowed .peer;
         exit-fits = ok .exit-fits;
         cell-fits = cell-fits l c f ok (turn .cell) (changes .place) (allowed .place);
-        sends = sends-fit l c h f ok inside message turn p k x;
+        sends = sends-fit l c h f ok inside message turn p k x u;
         room = f .room;
       };
     }
@@ -75,6 +76,10 @@ class-small State.RResultWait = omega arith
 class-small State.RResultRespWait = omega arith
 class-small State.RWaitTimeout = omega arith
 
+unknown-small : {k : ℕ} → UnknownOk k → k < 16
+unknown-small (none e) = omega arith
+unknown-small (some l m) = omega arith
+
 live-proper : (t : List ℕ) (place : ℕ) (event : Event) (g : Given) → SendProper (liveTurn t place event g .send)
 unfolding liveTurn rowTurn turnOf
 live-proper t place event g = proper (rowAt t place event) (recordAt t place .«tidok_sent») (g .kind) (g .reason)
@@ -88,6 +93,7 @@ live-sound l place event g c f lives given ok =
     step-sound l turn _ _ c f ok refl (live-range t (f .formed) place lives .bounds .message) (live-proper t place event g)
     (class-fits (turn .send) (classOf (recordAt t place .state)) (class-small (recordAt t place .state)))
     (turn-bounded t (f .formed) place lives event g given .exit)
+    (unknown-small (turn-bounded t (f .formed) place lives event g given .unknown))
     (live-allowed t (f .formed) place lives event g given (l .exit) (ok .exit-fits))
 
 opening-proper : (t : List ℕ) (opening : Opening) (h : Holder) (g : Given) → SendProper (openedTurn t opening h g .send)
@@ -110,6 +116,7 @@ opening-sound l opening h g genTid c f given ok counted inside peer tid tidnew m
     step-sound l turn _ h c f ok refl message (opening-proper t opening h g)
     (class-opening t opening h g class)
     (opened-bounded t (f .formed) opening h g given inside peer tid tidnew .exit)
+    (unknown-small (opened-bounded t (f .formed) opening h g given inside peer tid tidnew .unknown))
     (opening-allowed t (f .formed) opening h g given inside peer tid tidnew unused genTid (l .exit) counted (ok .exit-fits))
 
 -- an accepted call that only stores its time

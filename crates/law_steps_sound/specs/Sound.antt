@@ -2,6 +2,7 @@
 use Prim.Native.Nat.{_+_, _≤_}
 use lib.ListN.{length}
 use Rattle.base_layout.specs.Layout.{timeBound, exitBound, cellSize}
+use Rattle.table_ranges.specs.Ranges.{UnknownOk}
 use Rattle.table_well_formed.specs.WellFormed.{Fitting}
 use Rattle.row_turns.specs.declared.Given.{Given}
 use Rattle.step_plan.specs.declared.Call.{Call}
@@ -24,6 +25,8 @@ pub record GivenOk (g : Given) : Type 0 where
   pub time : g .time ≤ timeBound
   pub len : g .len ≤ cellSize
   pub exit-len : g .«exit_len» ≤ exitBound
+  -- 02, L4: the identity of an unknown item, or none
+  pub unknown : UnknownOk (g .unknown)
 
 -- the changes keep the table well formed, and the step can be carried out
 pub record Sound (l : Lent) (step : Step) : Type 0 where

@@ -7,6 +7,8 @@ use mathlib.Core.List.{List, []}
 use mathlib.Core.Logic.{_⊎_, inl, inr}
 use lib.ListN.{length}
 use lib.Dec.{eqb}
+use Rattle.call_receive.proofs.Identity.{identity-fine}
+use Rattle.table_ranges.specs.Ranges.{none as no-identity}
 use Rattle.base_layout.specs.Layout.{exitBound}
 use Rattle.codec_reading.specs.Read.{pduOf}
 use Rattle.table_layout.specs.Table.{count, recordAt}
@@ -71,7 +73,7 @@ module _ (c : Call) (l : Lent) (p : Primitive) (peer : peerIn c ≡ p .peer) (as
           comes = comes (a .place) (a .record-ready .row);
           time-is = time;
           aborted = other (p .event) no-abort;
-          given-ok = record { time = a .enters .bound; len = a .record-ready .message; exit-len = a .record-ready .exit };
+          given-ok = record { time = a .enters .bound; len = a .record-ready .message; exit-len = a .record-ready .exit; unknown = no-identity refl };
           lent-ok = λ k. record { message-inside = omega (arith, given k); message-fits = a .record-ready .message; exit-fits = omega (arith, exit k, a .record-ready .exit) };
           no-request = asks;
           known = inr (silent, (refl, peer ∙ sym (n .peer)));
@@ -106,7 +108,7 @@ module _ (l : Lent) (time peer : ℕ) (step : Step)
       comes = refl;
       time-is = refl;
       aborted = abort-read (pduOf (l .given) .kind);
-      given-ok = record { time = a .enters .bounded; len = omega arith; exit-len = omega arith };
+      given-ok = record { time = a .enters .bounded; len = omega arith; exit-len = omega arith; unknown = identity-fine (l .given) };
       lent-ok = λ x. record { message-inside = omega arith; message-fits = omega arith; exit-fits = no-exit (l .exit) x };
       no-request = refl;
       known = inr (refl, (refl, sym (k .called .peer-is)));
@@ -139,7 +141,7 @@ module _ (c : Call) (l : Lent) (a : Entered (l .table) (length (l .store)) (leng
       comes = comes;
       time-is = refl;
       aborted = other Event.Timer refl;
-      given-ok = record { time = a .bounded; len = omega arith; exit-len = omega arith };
+      given-ok = record { time = a .bounded; len = omega arith; exit-len = omega arith; unknown = no-identity refl };
       lent-ok = λ k. record { message-inside = omega arith; message-fits = omega arith; exit-fits = no-exit (l .exit) (alone k) };
       no-request = silent;
       known = inl (told, refl);

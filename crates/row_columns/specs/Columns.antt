@@ -1,6 +1,6 @@
 -- The right-hand side of a row as data (01, "Events"): the reasons, and the shapes that the rows have in common.
 use Prim.Native.Nat.{ℕ}
-use mathlib.Core.Bool.{Bool, true, false}
+use mathlib.Core.Bool.{Bool, true, false, not}
 use Rattle.table_record.specs.declared.State.{State}
 use Rattle.table_record.specs.declared.State.the-variants.{IResultRespWait, RResultWait}
 use Rattle.row_columns.specs.declared.Next.{Next}
@@ -47,7 +47,7 @@ captempexceeded = 7
 abbrev pub noresponse : ℕ
 noresponse = 8
 
--- no exit information, one indication, no message to keep, LastTID as it was
+-- no exit information, one indication, no message to keep, LastTID and the identity of an unknown item as they were
 unfoldable pub actWith : Next → Timer → Count → Mark → Send → Indication → Act
 actWith next timer count mark send first = record {
   next = next;
@@ -60,6 +60,7 @@ actWith next timer count mark send first = record {
   second = Indication.Nothing;
   cell = false;
   cache = Cache.Same;
+  item = false;
 }
 
 -- "end": send, indicate, and the record is freed
@@ -94,7 +95,7 @@ holdingOn = actWith (Goes RResultWait) Timer.Stop Count.Same Mark.HoldOnSent (Se
 abbrev pub waiting : Next → Count → Act
 waiting next count = actWith next Timer.A count Mark.Same Send.Nothing Indication.Nothing
 
--- "indicate result, AEC 0, timer A, RESULT RESP WAIT"
+-- "indicate result, AEC 0, timer A, RESULT RESP WAIT"; 02, L4: "keeps that identity from [..] the Result it took"
 unfoldable pub taken : Indication → Indication → Act
 taken first second = record {
   next = Goes IResultRespWait;
@@ -107,6 +108,7 @@ taken first second = record {
   second = second;
   cell = false;
   cache = Cache.Same;
+  item = true;
 }
 
 -- "Ack, timer W, WAIT TIMEOUT", with the exit information
@@ -122,11 +124,12 @@ acked state exit = record {
   second = Indication.Nothing;
   cell = false;
   cache = Cache.Same;
+  item = false;
 }
 
 -- "Only a class 1 or 2 request, a result and an Invoke to be verified write their record's cell"
-unfoldable pub stored : State → Timer → Count → Send → Cache → Act
-stored state timer count send cache = record {
+unfoldable pub stored : State → Timer → Count → Send → Cache → Bool → Act
+stored state timer count send cache item = record {
   next = Goes state;
   timer = timer;
   count = count;
@@ -137,17 +140,18 @@ stored state timer count send cache = record {
   second = Indication.Nothing;
   cell = true;
   cache = cache;
+  item = item;
 }
 
 -- "RCR 0, send [Invoke or Result], timer R[0]"
 abbrev pub sent : State → Send → Act
-sent state send = stored state Timer.R Count.RcrZero send Cache.Same
+sent state send = stored state Timer.R Count.RcrZero send Cache.Same false
 
--- "keep the data, send TIDve, no timer, TIDOK WAIT"
+-- "keep the data, send TIDve, no timer, TIDOK WAIT"; 02, L4: "keeps that identity from the Invoke that opened it"
 abbrev pub verifying : State → Cache → Act
-verifying state cache = stored state Timer.Stop Count.Same (Send.Tidve false) cache
+verifying state cache = stored state Timer.Stop Count.Same (Send.Tidve false) cache true
 
--- "indicate, AEC 0, timer A, INVOKE RESP WAIT"; "the store serves an Invoke shown after verification"
+-- "indicate, AEC 0, timer A, INVOKE RESP WAIT"; "the store serves an Invoke shown after verification"; 02, L4: "keeps that identity from the Invoke that opened it", which was an earlier PDU where it is verified
 unfoldable pub shown : State → Bool → Cache → Act
 shown state verified cache = record {
   next = Goes state;
@@ -160,4 +164,5 @@ shown state verified cache = record {
   second = Indication.Nothing;
   cell = false;
   cache = cache;
+  item = not verified;
 }

@@ -85,7 +85,7 @@ pub enum Indication {
     Abort(u8, u8),
 }
 
-// `cell`: the message given is written to the record's cell.
+// `cell`: the message given is written to the record's cell. `item`: the record takes the identity of the first unknown item of the PDU that came.
 pub struct Act {
     pub next: Next,
     pub timer: Timer,
@@ -97,6 +97,7 @@ pub struct Act {
     pub second: Indication,
     pub cell: bool,
     pub cache: Cache,
+    pub item: bool,
 }
 
 fn act_with(
@@ -120,6 +121,7 @@ fn act_with(
         second: Indication::Nothing,
         cell: false,
         cache: Cache::Same,
+        item: false,
     }
 }
 
@@ -228,6 +230,7 @@ pub fn takes(first: Indication, second: Indication) -> Act
         second: second,
         cell: false,
         cache: Cache::Same,
+        item: true,
     }
 }
 
@@ -246,12 +249,13 @@ pub fn acks(state: State, exit: ExitInfo) -> Act
         second: Indication::Nothing,
         cell: false,
         cache: Cache::Same,
+        item: false,
     }
 }
 
 // The message is kept in the record's cell.
-fn stores(state: State, timer: Timer, count: Count, send: Send, cache: Cache) -> Act
-    ensures { λ a. ⌜ a ≡ stored state timer count send cache ⌝ }
+fn stores(state: State, timer: Timer, count: Count, send: Send, cache: Cache, item: bool) -> Act
+    ensures { λ a. ⌜ a ≡ stored state timer count send cache item ⌝ }
 {
     Act {
         next: Next::Goes(state),
@@ -264,6 +268,7 @@ fn stores(state: State, timer: Timer, count: Count, send: Send, cache: Cache) ->
         second: Indication::Nothing,
         cell: true,
         cache: cache,
+        item: item,
     }
 }
 
@@ -271,14 +276,21 @@ fn stores(state: State, timer: Timer, count: Count, send: Send, cache: Cache) ->
 pub fn sends(state: State, send: Send) -> Act
     ensures { λ a. ⌜ a ≡ sent state send ⌝ }
 {
-    stores(state, Timer::R, Count::RcrZero, send, Cache::Same)
+    stores(state, Timer::R, Count::RcrZero, send, Cache::Same, false)
 }
 
 // An Invoke to be verified.
 pub fn verifies(state: State, cache: Cache) -> Act
     ensures { λ a. ⌜ a ≡ verifying state cache ⌝ }
 {
-    stores(state, Timer::Stop, Count::Same, Send::Tidve(false), cache)
+    stores(
+        state,
+        Timer::Stop,
+        Count::Same,
+        Send::Tidve(false),
+        cache,
+        true,
+    )
 }
 
 // The responder's user is shown an Invoke.
@@ -296,5 +308,6 @@ pub fn shows(state: State, verified: bool, cache: Cache) -> Act
         second: Indication::Nothing,
         cell: false,
         cache: cache,
+        item: !verified,
     }
 }

@@ -83,6 +83,10 @@ storesExit ExitInfo.Empty = false
 abbrev pub lenAfter : Bool → ℕ → ℕ → ℕ
 lenAfter cell was given = pick cell given was
 
+-- 02, L4: "The record keeps that identity from the Invoke that opened it or the Result it took": the one that came where a row takes it, else as it was
+abbrev pub unknownAfter : Bool → ℕ → ℕ → ℕ
+unknownAfter item was came = pick item came was
+
 -- 01: "stop timer", "no timer": a deadline of 0 is none
 abbrev pub noTimer : ℕ
 noTimer = 0
@@ -124,6 +128,7 @@ newRecord peer tid userAck tidnew = record {
   deadline = 0;
   len = 0;
   limit = 0;
+  unknown = 0;
 }
 
 -- the record in its next state; peer, TID, user acknowledgement and TIDnew never change, and R[RCR] takes RCR as the row leaves it
@@ -143,6 +148,7 @@ movedTo state a r g s rows = record {
   deadline = deadlineAfter (a .timer) (r .deadline) (g .time) s (intervalOf rows (classOf state) (rcrAfter (a .count) (r .rcr)));
   len = lenAfter (a .cell) (r .len) (g .len);
   limit = limitAfter (a .timer) (r .limit) (s .limit);
+  unknown = unknownAfter (a .item) (r .unknown) (g .unknown);
 }
 
 -- 01, "Events": the state that a row leaves, and whether it ends the record

@@ -4,7 +4,7 @@ ghost use Prim.Native.Nat.{_≤_};
 ghost use lib.ListN.{length};
 ghost use Rattle.base_layout.specs.Layout.{headerSize, timeBound};
 ghost use Rattle.table_layout.specs.Table.{intervalsOf};
-ghost use Rattle.row_turns.specs.Turns.{upOf, rcrAfter, aecAfter, holdOnAfter, tidokSentAfter, holdOnSentAfter, exitLenAfter, storesExit, lenAfter, stoppedAt, deadlineAfter, limitAfter, newRecord, movedTo, stateAfter, endsBy, recordAfter, turnOf};
+ghost use Rattle.row_turns.specs.Turns.{upOf, rcrAfter, aecAfter, holdOnAfter, tidokSentAfter, holdOnSentAfter, exitLenAfter, storesExit, lenAfter, stoppedAt, deadlineAfter, limitAfter, unknownAfter, newRecord, movedTo, stateAfter, endsBy, recordAfter, turnOf};
 use row_columns::Act;
 use row_columns::Cache;
 use row_columns::Count;
@@ -20,13 +20,15 @@ use table_record::Rcr;
 use table_record::Record;
 use table_record::State;
 
-// What came with the event: the time, an abort's type and reason, the lengths of the message and of the exit information.
+// What came with the event: the time, an abort's type and reason, the lengths of the message and of the exit information,
+// and the identity of the first unknown item of the PDU that came, 0 where none came or it has none.
 pub struct Given {
     pub time: u64,
     pub kind: u8,
     pub reason: u8,
     pub len: u32,
     pub exit_len: u8,
+    pub unknown: u8,
 }
 
 // The record afterwards (free where it ended), what is sent and indicated in order, whether the message goes to the cell
@@ -165,6 +167,13 @@ fn limit_after(t: Timer, was: u32, limit: u32) -> u32
     }
 }
 
+// The identity that the record's Acks name.
+fn unknown_after(item: bool, was: u8, came: u8) -> u8
+    ensures { λ k. ⌜ k ≡ unknownAfter item was came ⌝ }
+{
+    if item { came } else { was }
+}
+
 // The record that an opening starts from; with zeros, a free record.
 pub fn new_record(peer: u8, tid: u16, user_ack: bool, tidnew: bool) -> Record
     ensures { λ r. ⌜ r ≡ newRecord peer tid «user_ack» tidnew ⌝ }
@@ -184,6 +193,7 @@ pub fn new_record(peer: u8, tid: u16, user_ack: bool, tidnew: bool) -> Record
         deadline: 0,
         len: 0,
         limit: 0,
+        unknown: 0,
     }
 }
 
@@ -210,6 +220,7 @@ fn moved_to(state: State, a: Act, r: Record, g: Given, s: Settings, t: &[u8]) ->
     let deadline = deadline_after(timer, r.deadline, g.time, s, again);
     let len = len_after(a.cell, r.len, g.len);
     let limit = limit_after(timer, r.limit, s.limit);
+    let unknown = unknown_after(a.item, r.unknown, g.unknown);
     Record {
         state: state,
         peer: r.peer,
@@ -225,6 +236,7 @@ fn moved_to(state: State, a: Act, r: Record, g: Given, s: Settings, t: &[u8]) ->
         deadline: deadline,
         len: len,
         limit: limit,
+        unknown: unknown,
     }
 }
 

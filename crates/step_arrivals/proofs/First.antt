@@ -11,7 +11,7 @@ use Rattle.base_lists.specs.Seq.{pick}
 use Rattle.base_lists.proofs.StoresAndParts.{told, lt-or-le}
 use Rattle.codec_items.specs.declared.Item.{Item}
 use Rattle.codec_pdu.specs.declared.Pdu.{Pdu}
-use Rattle.codec_items.specs.Info.{infoFrom, itemIn, dataOf}
+use Rattle.codec_items.specs.Info.{firstFrom, infoFrom, itemIn, dataOf}
 use Rattle.codec_pdu.specs.Pdu.{infoOf}
 use Rattle.step_arrivals.specs.FirstInfo.{IsInfo, Says}
 
@@ -26,7 +26,7 @@ further list at m no-info l e = go (lt-or-le at m)
         absurd (no-info (rw q at e))
 
 pub info-says : (n : ℕ) (list : List Item) (at : ℕ) → Says list at n (infoFrom n list at)
-unfolding infoFrom
+unfolding infoFrom firstFrom
 info-says zero list at = inr ((λ m a b e. absurd (omega arith)), refl)
 info-says (suc k) list at = go (told (eqb (itemIn list at .identity) 1)) (info-says k list (at + 1))
   where

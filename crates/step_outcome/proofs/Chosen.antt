@@ -4,6 +4,7 @@ use mathlib.Core.Path.{_≡_, refl, sym, _∙_}
 use mathlib.Core.List.{List, []}
 use mathlib.Core.Bool.{Bool, true, false}
 use lib.ListN.{length}
+use lib.Dec.{eqb}
 use Rattle.base_lists.proofs.StoresAndParts.{true-false, put-nil}
 use Rattle.row_columns.specs.declared.Send.{Send}
 use Rattle.row_columns.specs.declared.Send.the-variants.{Nothing, Invoke, Tidok, LastAck, HoldOn, Tidve, Result, Abort}
@@ -11,7 +12,7 @@ use Rattle.step_sending.specs.declared.Sender.{Sender}
 use Rattle.step_sending.specs.declared.Source.{Source}
 use Rattle.step_sending.specs.declared.Source.the-variants as Source
 use Rattle.step_sending.specs.Sending.{sourceOf}
-use Rattle.step_sending.specs.Octets.{FitSend, octetsSent}
+use Rattle.step_sending.specs.Octets.{FitExit, FitSend, octetsSent}
 use Rattle.step_outcome.specs.Carry.{isNothing, sliceOf, octetsOut, FitOut}
 use Rattle.step_outcome.proofs.Written.{Sent}
 
@@ -40,12 +41,16 @@ module _ (given store table : List ℕ) (send : Send) (by : Sender) where
     unfolding octetsOut
     chosen-sent r out o d = rw (sym e ∙ told) d
 
+exit-by-length : (s u : List ℕ) (by : Sender) (bare : Bool) → length u ≡ length s → FitExit s bare by → FitExit u bare by
+exit-by-length s u by true e f = tt
+exit-by-length s u by false e f = rw e f
+
 fit-by-length : (s u : List ℕ) (send : Send) (by : Sender) → length u ≡ length s → FitSend s send by → FitSend u send by
 unfolding FitSend
 fit-by-length s u Nothing by e f = f
 fit-by-length s u (Invoke again) by e f = rw e f
 fit-by-length s u (Tidok again) by e f = f
-fit-by-length s u (LastAck again) by e f = rw e f
+fit-by-length s u (LastAck again) by e f = (f .0, exit-by-length s u by (eqb (by .«exit_len») 0) e (f .1))
 fit-by-length s u (HoldOn again) by e f = f
 fit-by-length s u (Tidve again) by e f = f
 fit-by-length s u (Result again) by e f = rw e f

@@ -47,7 +47,7 @@ messageFrom Source.Table h c = noPart
 unfoldable pub messageOf : Send → Holder → Call → Part
 messageOf send h c = messageFrom (sourceOf send) h c
 
--- who sends: the record's role, TID, class, U/P and TIDnew; "exit information is kept in the record"
+-- who sends: the record's role, TID, class, U/P and TIDnew; "exit information is kept in the record", and 02, L4, the identity that its Acks name
 unfoldable pub senderOf : Turn → Holder → Call → Sender
 senderOf turn h c = record {
   role = h .role;
@@ -59,6 +59,7 @@ senderOf turn h c = record {
   len = messageOf (turn .send) h c .len;
   «exit_start» = exitBase (h .place);
   «exit_len» = turn .after .«exit_len»;
+  unknown = turn .after .unknown;
 }
 
 -- "as a part of it": of the datagram or of the store
@@ -99,7 +100,7 @@ stepOf turn changes h c = record {
 
 -- nobody sends
 unfoldable pub noSender : Sender
-noSender = record { role = Initiator; tid = 0; class = 0; «user_ack» = false; tidnew = false; start = 0; len = 0; «exit_start» = 0; «exit_len» = 0 }
+noSender = record { role = Initiator; tid = 0; class = 0; «user_ack» = false; tidnew = false; start = 0; len = 0; «exit_start» = 0; «exit_len» = 0; unknown = 0 }
 
 -- a call that changes nothing but the time
 unfoldable pub idleChanges : ℕ → Changes

@@ -123,6 +123,7 @@ pub fn sender_of(turn: Turn, h: Holder, c: Call) -> Sender
         len: message.len,
         exit_start: HEADER_SIZE + h.place * RECORD_SIZE + EXIT_OFFSET,
         exit_len: exit_len,
+        unknown: after.unknown,
     }
 }
 

@@ -14,18 +14,13 @@ use Rattle.codec_encoding.specs.Write.{typeNumber, flagsOf, extraOf, headerOf, 
 use Rattle.row_columns.specs.declared.Send.{Send}
 use Rattle.row_columns.specs.declared.Send.the-variants.{Nothing, Invoke, Tidok, LastAck, HoldOn, Tidve, Result, Abort}
 use Rattle.step_sending.specs.declared.Sender.{Sender}
-use Rattle.step_sending.specs.Sending.{tidOf, plainPdu, exitItems, lastAckPdu, sentPdu}
-use Rattle.step_sending.specs.Octets.{withTid, message, exit, exitOctets, octetsSent, FitSend}
+use Rattle.step_sending.specs.Sending.{tidOf, errorOctet, partsIn, plainPdu, ackItems, ackPdu, plainAck, sentPdu}
+use Rattle.step_sending.specs.Octets.{withTid, message, exit, exitOctets, ackOctets, octetsSent, FitAck, FitSend}
 
 -- a TID of 15 bits is sent whole
 pub tid-whole : (by : Sender) → by .tid < 32768 → tidOf by ≡ sendTid (by .role) (by .tid)
 unfolding tidOf
 tid-whole by h = let e : by .tid % 32768 ≡ by .tid = omega arith in ap (sendTid (by .role)) e
-
--- what is picked, seen through a function
-picked : {A B : Type 0} (f : A → B) (b : Bool) (x y : A) (u v : B) → f x ≡ u → f y ≡ v → f (pick b x y) ≡ pick b u v
-picked f true x y u v d e = d
-picked f false x y u v d e = e
 
 pub exit-form : (long : Bool) (len : ℕ) (body : List ℕ) → formOf long 8 len body ≡ pick long (0x0C ∷ len ∷ body) ((0x08 + len) ∷ body)
 exit-form true len body = refl
@@ -35,10 +30,16 @@ exit-item : (s : List ℕ) (by : Sender) → (formOf (ltb 3 (by .«exit_len»)) 
 exit-item s by =
     append-nil _ ∙ append-nil _ ∙ exit-form (ltb 3 (by .«exit_len»)) (by .«exit_len») (exit s by)
 
-last-ack : (s : List ℕ) (again : Bool) (by : Sender) → octetsOf s (lastAckPdu again by) ≡ octetsSent s (LastAck again) by
-unfolding lastAckPdu plainPdu exitItems octetsOf headerOf typeNumber flagsOf extraOf itemsOctets itemOctets octetsSent
-last-ack s true by = picked (octetsOf s) (eqb (by .«exit_len») 0) _ _ _ _ refl (ap (withTid by 0x99) (exit-item s by))
-last-ack s false by = picked (octetsOf s) (eqb (by .«exit_len») 0) _ _ _ _ refl (ap (withTid by 0x98) (exit-item s by))
+ack-octets : (s : List ℕ) (again known bare : Bool) (by : Sender) → octetsOf (partsIn s by) (ackPdu false again (ackItems known bare by) by) ≡ ackOctets s again known bare by
+unfolding ackPdu ackItems octetsOf headerOf typeNumber flagsOf extraOf itemsOctets itemOctets ackOctets
+ack-octets s true true true by = refl
+ack-octets s false true true by = refl
+ack-octets s true true false by = ap (withTid by 0x99) (exit-item s by)
+ack-octets s false true false by = ap (withTid by 0x98) (exit-item s by)
+ack-octets s true false true by = refl
+ack-octets s false false true by = refl
+ack-octets s true false false by = ap (λ (x : List ℕ). withTid by 0x99 (0x81 ∷ errorOctet by ∷ x)) (exit-item s by)
+ack-octets s false false false by = ap (λ (x : List ℕ). withTid by 0x98 (0x81 ∷ errorOctet by ∷ x)) (exit-item s by)
 
 -- version 0 leaves TIDnew, U/P and the class
 invoke-octet : (s : List ℕ) (by : Sender) (first : ℕ)
@@ -47,16 +48,15 @@ invoke-octet s by first =
     let e : 0 + bit (by .tidnew) * 32 + bit (by .«user_ack») * 16 + by .class ≡ bit (by .tidnew) * 32 + bit (by .«user_ack») * 16 + by .class = omega arith in
     ap (λ (o : ℕ). withTid by first (o ∷ message s by)) e
 
-pub octets-are : (s : List ℕ) (send : Send) (by : Sender) → FitSend s send by → octetsOf s (sentPdu send by) ≡ octetsSent s send by
-unfolding sentPdu plainPdu octetsOf headerOf typeNumber flagsOf extraOf itemsOctets octetsSent FitSend
+pub octets-are : (s : List ℕ) (send : Send) (by : Sender) → FitSend s send by → octetsOf (partsIn s by) (sentPdu send by) ≡ octetsSent s send by
+unfolding sentPdu plainPdu plainAck ackPdu octetsOf headerOf typeNumber flagsOf extraOf itemsOctets octetsSent FitSend
 octets-are s Nothing by f = absurd f
 octets-are s (Invoke true) by f = invoke-octet s by 0x0F
 octets-are s (Invoke false) by f = invoke-octet s by 0x0E
 octets-are s (Tidok true) by f = refl
 octets-are s (Tidok false) by f = refl
-octets-are s (LastAck again) by f = last-ack s again by
-octets-are s (HoldOn true) by f = refl
-octets-are s (HoldOn false) by f = refl
+octets-are s (LastAck again) by f = ack-octets s again (eqb (by .unknown) 0) (eqb (by .«exit_len») 0) by
+octets-are s (HoldOn again) by f = ack-octets s again (eqb (by .unknown) 0) true by
 octets-are s (Tidve true) by f = refl
 octets-are s (Tidve false) by f = refl
 octets-are s (Result true) by f = refl
@@ -68,21 +68,24 @@ pub exit-length : (long : Bool) (len : ℕ) (body : List ℕ) → length body �
 exit-length true len body e h = omega arith
 exit-length false len body e h = omega arith
 
--- what is picked of two lists is no longer than either may be
-picked-length : (b : Bool) (x y : List ℕ) → length x ≤ outputLeast → length y ≤ outputLeast → length (pick b x y) ≤ outputLeast
-picked-length true x y d e = d
-picked-length false x y d e = e
+pub exit-room : (s : List ℕ) (by : Sender) → by .«exit_start» + by .«exit_len» ≤ length s → by .«exit_len» ≤ exitBound → length (exitOctets s by) ≤ 130
+exit-room s by inside short = exit-length (ltb 3 (by .«exit_len»)) (by .«exit_len») (exit s by) (length-part s (by .«exit_start») (by .«exit_len») inside) short
+
+-- 02, L4: 3 octets of header, 2 of the Error item, 2 and 128 of exit information at most
+pub ack-length : (s : List ℕ) (again known bare : Bool) (by : Sender) → FitAck s bare by → length (ackOctets s again known bare by) ≤ 135
+unfolding ackOctets
+ack-length s again true true by f = omega arith
+ack-length s again false true by f = omega arith
+ack-length s again true false by f = omega (arith, exit-room s by (f .1 .0) (f .1 .1))
+ack-length s again false false by f = omega (arith, exit-room s by (f .1 .0) (f .1 .1))
 
 pub sent-length : (s : List ℕ) (send : Send) (by : Sender) → FitSend s send by → length (octetsSent s send by) ≤ outputLeast
 unfolding octetsSent FitSend
 sent-length s Nothing by f = absurd f
 sent-length s (Invoke again) by f = omega (arith, length-part s (by .start) (by .len) (f .1), f .2)
 sent-length s (Tidok again) by f = omega arith
-sent-length s (LastAck again) by f =
-    let item : length (exitOctets s by) ≤ 130 =
-    exit-length (ltb 3 (by .«exit_len»)) (by .«exit_len») (exit s by) (length-part s (by .«exit_start») (by .«exit_len») (f .0)) (f .1) in
-    picked-length (eqb (by .«exit_len») 0) _ _ (omega arith) (omega arith)
-sent-length s (HoldOn again) by f = omega arith
+sent-length s (LastAck again) by f = omega (arith, ack-length s again (eqb (by .unknown) 0) (eqb (by .«exit_len») 0) by f)
+sent-length s (HoldOn again) by f = omega (arith, ack-length s again (eqb (by .unknown) 0) true by f)
 sent-length s (Tidve again) by f = omega arith
 sent-length s (Result again) by f = omega (arith, length-part s (by .start) (by .len) (f .0), f .1)
 sent-length s (Abort kind reason) by f = omega arith

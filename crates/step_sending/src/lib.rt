@@ -2,18 +2,20 @@
 ghost use mathlib.Core.Path.{_≡_};
 ghost use mathlib.Core.List.{[], _∷_};
 ghost use Prim.Native.Nat.{_+_, _≤_};
+ghost use mathlib.Core.Bool.{true, false};
 ghost use lib.ListN.{length};
+ghost use lib.Dec.{eqb};
 ghost use Rattle.base_layout.specs.Layout.{exitBound, outputLeast};
 ghost use Rattle.base_lists.specs.Seq.{put};
 ghost use Rattle.row_columns.specs.declared.Send.the-variants.{Invoke, LastAck, Result};
 ghost use Rattle.step_sending.specs.Sending.{tidOf, messageSource, sourceOf};
-ghost use Rattle.step_sending.specs.Octets.{withTid, exitOctets, octetsSent, FitSend};
+ghost use Rattle.step_sending.specs.Octets.{withTid, exitOctets, errorHead, ackOctets, octetsSent, FitAck, FitSend};
 use base_tids::SendTid;
 use codec_items::Item;
 use row_columns::Send;
 use table_record::Role;
 
-// What a PDU needs of its sender: the message and the exit information are places in their sources.
+// What a PDU needs of its sender: the message and the exit information are places in their sources; its Acks name the unknown item of that identity, none at 0.
 pub struct Sender {
     pub role: Role,
     pub tid: u16,
@@ -24,6 +26,7 @@ pub struct Sender {
     pub len: usize,
     pub exit_start: usize,
     pub exit_len: usize,
+    pub unknown: u8,
 }
 
 // Where the parts of a PDU lie: in what the call was given, in the record's cell, in the table.
@@ -74,11 +77,11 @@ fn put_result(out: &mut [u8], src: &[u8], again: bool, by: Sender) -> usize
     3 + by.len
 }
 
-// Exit information as Info item 1, after the TID; the place after it.
-fn put_exit(out: &mut [u8], src: &[u8], by: Sender) -> usize
+// Exit information as Info item 1, from `at` on; the place after it.
+fn put_exit(out: &mut [u8], at: usize, src: &[u8], by: Sender) -> usize
     requires { ⌜ (by .«exit_start» + by .«exit_len» ≤ length (now src)) × (by .«exit_len» ≤ exitBound) ⌝ }
-    requires { ⌜ outputLeast ≤ length (now out) ⌝ }
-    ensures { λ r. ⌜ (r ≡ 3 + length (exitOctets (now (src .entry)) by)) × (now (out .exit) ≡ put (now (out .entry)) 3 (exitOctets (now (src .entry)) by)) ⌝ }
+    requires { ⌜ (at ≤ 5) × (outputLeast ≤ length (now out)) ⌝ }
+    ensures { λ r. ⌜ (r ≡ at + length (exitOctets (now (src .entry)) by)) × (now (out .exit) ≡ put (now (out .entry)) at (exitOctets (now (src .entry)) by)) ⌝ }
 {
     let it = Item {
         identity: 1,
@@ -86,20 +89,53 @@ fn put_exit(out: &mut [u8], src: &[u8], by: Sender) -> usize
         start: by.exit_start,
         len: by.exit_len,
     };
-    codec_encoding::put_item(out, 3, src, it, false)
+    codec_encoding::put_item(out, at, src, it, false)
 }
 
-fn put_last_ack(out: &mut [u8], src: &[u8], again: bool, by: Sender) -> usize
-    requires { ⌜ FitSend (now src) (LastAck again) by ⌝ }
+// An Ack that names no unknown item; `bare`: without exit information.
+fn put_known_ack(out: &mut [u8], src: &[u8], again: bool, bare: bool, by: Sender) -> usize
+    requires { ⌜ FitAck (now src) bare by ⌝ }
     requires { ⌜ outputLeast ≤ length (now out) ⌝ }
-    ensures { λ r. ⌜ (r ≡ length (octetsSent (now (src .entry)) (LastAck again) by)) × (now (out .exit) ≡ put (now (out .entry)) 0 (octetsSent (now (src .entry)) (LastAck again) by)) ⌝ }
+    ensures { λ r. ⌜ (r ≡ length (ackOctets (now (src .entry)) again true bare by)) × (now (out .exit) ≡ put (now (out .entry)) 0 (ackOctets (now (src .entry)) again true bare by)) ⌝ }
 {
     let rid = base_lists::bit(again);
-    if by.exit_len == 0 {
+    if bare {
         put_head(out, 0x18 + rid, by)
     } else {
         put_head(&mut *out, 0x98 + rid, by);
-        put_exit(out, src, by)
+        put_exit(out, 3, src, by)
+    }
+}
+
+// The first octet of the Error item: CON where exit information follows.
+fn error_head(bare: bool) -> u8
+    ensures { λ r. ⌜ r ≡ errorHead bare ⌝ }
+{
+    if bare { 0x01 } else { 0x81 }
+}
+
+// An Ack that names an unknown item, before exit information.
+fn put_error_ack(out: &mut [u8], src: &[u8], again: bool, bare: bool, by: Sender) -> usize
+    requires { ⌜ FitAck (now src) bare by ⌝ }
+    requires { ⌜ outputLeast ≤ length (now out) ⌝ }
+    ensures { λ r. ⌜ (r ≡ length (ackOctets (now (src .entry)) again false bare by)) × (now (out .exit) ≡ put (now (out .entry)) 0 (ackOctets (now (src .entry)) again false bare by)) ⌝ }
+{
+    put_head(&mut *out, 0x98 + base_lists::bit(again), by);
+    let item = [error_head(bare), 0x10 + by.unknown];
+    base_lists::store(&mut *out, 3, &item);
+    if bare { 5 } else { put_exit(out, 5, src, by) }
+}
+
+// A plain Ack of a record.
+fn put_ack(out: &mut [u8], src: &[u8], again: bool, bare: bool, by: Sender) -> usize
+    requires { ⌜ FitAck (now src) bare by ⌝ }
+    requires { ⌜ outputLeast ≤ length (now out) ⌝ }
+    ensures { λ r. ⌜ (r ≡ length (ackOctets (now (src .entry)) again (eqb (by .unknown) 0) bare by)) × (now (out .exit) ≡ put (now (out .entry)) 0 (ackOctets (now (src .entry)) again (eqb (by .unknown) 0) bare by)) ⌝ }
+{
+    if by.unknown == 0 {
+        put_known_ack(out, src, again, bare, by)
+    } else {
+        put_error_ack(out, src, again, bare, by)
     }
 }
 
@@ -122,8 +158,8 @@ pub fn put_sent(out: &mut [u8], src: &[u8], send: Send, by: Sender) -> usize
         Send::Nothing => 0,
         Send::Invoke(again) => put_invoke(out, src, again, by),
         Send::Tidok(again) => put_head(out, 0x1C + base_lists::bit(again), by),
-        Send::LastAck(again) => put_last_ack(out, src, again, by),
-        Send::HoldOn(again) => put_head(out, 0x18 + base_lists::bit(again), by),
+        Send::LastAck(again) => put_ack(out, src, again, by.exit_len == 0, by),
+        Send::HoldOn(again) => put_ack(out, src, again, true, by),
         Send::Tidve(again) => put_head(out, 0x1C + base_lists::bit(again), by),
         Send::Result(again) => put_result(out, src, again, by),
         Send::Abort(abort_type, reason) => put_abort(out, abort_type, reason, by),

@@ -24,23 +24,27 @@ pub zeros-from : (t : List ℕ) (at n : ℕ) → Zeros t at n → zeros t at n �
 unfolding zeros
 zeros-from t at n h = every-all (λ k. eqb (getD t (at + k) 0) 0) n (λ k l. eq-eqb _ _ (h k l))
 
--- two stretches, one after the other
-pub zeros-join : (t : List ℕ) (at m n : ℕ) → pick (zeros t at m) (zeros t (at + m) n) false ≡ zeros t at (m + n)
-zeros-join t at m n = same-test _ _
-    (λ h. zeros-from t at (m + n) (joined (zeros-to t at m (both-fst (zeros t at m) (zeros t (at + m) n) h)) (zeros-to t (at + m) n (both-snd (zeros t at m) (zeros t (at + m) n) h))))
-    (λ h. both (zeros t at m) (zeros t (at + m) n) (zeros-from t at m (λ k l. zeros-to t at (m + n) h k (omega arith))) (zeros-from t (at + m) n (second (zeros-to t at (m + n) h)))) where
-      joined : Zeros t at m → Zeros t (at + m) n → Zeros t at (m + n)
-      joined a b k l = go (lt-or-le k m) where
-        go : (k < m) ⊎ (m ≤ k) → getD t (at + k) 0 ≡ 0
+-- two stretches that cover a third, the second from m octets on
+pub zeros-cover : (t : List ℕ) (at l m n : ℕ) → m ≤ l → l ≤ m + n → pick (zeros t at l) (zeros t (at + m) n) false ≡ zeros t at (m + n)
+zeros-cover t at l m n low high = same-test _ _
+    (λ h. zeros-from t at (m + n) (joined (zeros-to t at l (both-fst (zeros t at l) (zeros t (at + m) n) h)) (zeros-to t (at + m) n (both-snd (zeros t at l) (zeros t (at + m) n) h))))
+    (λ h. both (zeros t at l) (zeros t (at + m) n) (zeros-from t at l (λ k b. zeros-to t at (m + n) h k (omega arith))) (zeros-from t (at + m) n (second (zeros-to t at (m + n) h)))) where
+      joined : Zeros t at l → Zeros t (at + m) n → Zeros t at (m + n)
+      joined a b k c = go (lt-or-le k l) where
+        go : (k < l) ⊎ (l ≤ k) → getD t (at + k) 0 ≡ 0
         go (inl h) = a k h
         go (inr h) =
             let e : at + k ≡ at + m + (k - m) = omega arith in
             rw e (b (k - m) (omega arith))
 
       second : Zeros t at (m + n) → Zeros t (at + m) n
-      second a k l =
+      second a k c =
           let e : at + m + k ≡ at + (m + k) = omega arith in
           rw e (a (m + k) (omega arith))
+
+-- two stretches, one after the other
+zeros-join : (t : List ℕ) (at m n : ℕ) → pick (zeros t at m) (zeros t (at + m) n) false ≡ zeros t at (m + n)
+zeros-join t at m n = zeros-cover t at m m n (omega arith) (omega arith)
 
 num-to : (n at : ℕ) (t : List ℕ) → num (gets n at t) ≡ 0 → Zeros t at n
 unfolding num gets

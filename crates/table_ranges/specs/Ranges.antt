@@ -1,11 +1,11 @@
--- Lists of tests; an interval in its range (01, "What the reader carries"); octets that are zero.
+-- Lists of tests; an interval in its range (01, "What the reader carries"), mode and waiting limit, the identity of an unknown item (02); octets that are zero.
 use Prim.Native.Nat.{ℕ, _+_, _≤_, _<_}
 use mathlib.Core.List.{List, [], _∷_}
 use mathlib.Core.Bool.{Bool, true, false}
 use mathlib.Core.Path.{_≡_}
 use lib.ListN.{getD}
 use lib.Dec.{leb, eqb}
-use Rattle.base_layout.specs.Layout.{intervalBound}
+use Rattle.base_layout.specs.Layout.{intervalBound, unknownLeast, identityBound}
 use Rattle.base_lists.specs.Seq.{pick, every}
 
 -- all tests of a list hold
@@ -32,6 +32,14 @@ pub data ModesOk (modes limit : ℕ) : Type 0 where
 
 unfoldable pub modesOk : ℕ → ℕ → Bool
 modesOk modes limit = pick (eqb modes 0) (eqb limit 0) (pick (eqb modes 1) (interval limit) false)
+
+-- 02, L4: "an item of unknown identity", 6 to 15, or 0 where there is none; as a sentence, and as a test
+pub data UnknownOk (k : ℕ) : Type 0 where
+  none : k ≡ 0 → UnknownOk k
+  some : unknownLeast ≤ k → k ≤ identityBound → UnknownOk k
+
+unfoldable pub unknownOk : ℕ → Bool
+unknownOk k = pick (eqb k 0) true (pick (leb unknownLeast k) (leb k identityBound) false)
 
 -- the n octets from `at` on are zero: as a sentence, and as a test
 abbrev pub Zeros : List ℕ → ℕ → ℕ → Type 0

@@ -4,7 +4,7 @@ ghost use Prim.Native.Nat.{_+_, _*_, _≤_};
 ghost use lib.ListN.{length};
 ghost use lib.Dec.{leb};
 ghost use Rattle.base_layout.specs.Layout.{timeBound, maximumBound, tidBound};
-ghost use Rattle.table_ranges.specs.Ranges.{interval, modesOk, zeros};
+ghost use Rattle.table_ranges.specs.Ranges.{interval, modesOk, unknownOk, zeros};
 
 // The bound of the waiting limit, as wide as the settings' words.
 const LIMIT_BOUND: u64 = base_layout::INTERVAL_BOUND as u64;
@@ -52,6 +52,20 @@ pub fn modes_ok(modes: u64, limit: u64) -> bool
         } else {
             false
         }
+    } else {
+        false
+    }
+}
+
+// The identity of an unknown item, or 0.
+pub fn unknown_ok(k: u8) -> bool
+    ensures { λ r. ⌜ r ≡ unknownOk k ⌝ }
+{
+    if k == 0 {
+        return true;
+    }
+    if base_layout::UNKNOWN_LEAST <= k {
+        k <= base_layout::IDENTITY_BOUND
     } else {
         false
     }

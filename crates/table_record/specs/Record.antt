@@ -3,7 +3,7 @@ use Prim.Native.Nat.{ℕ, _+_, _*_, _%_, _/_, _^_, _<_}
 use mathlib.Core.List.{List, [], _∷_, _++_}
 use lib.ListN.{getD}
 use lib.Dec.{eqb}
-use Rattle.base_layout.specs.Layout.{peerOffset, tidOffset, rcrOffset, aecOffset, flagsOffset, exitLenOffset, deadlineOffset, lenOffset, limitOffset, tidCount}
+use Rattle.base_layout.specs.Layout.{peerOffset, tidOffset, rcrOffset, aecOffset, flagsOffset, exitLenOffset, deadlineOffset, lenOffset, limitOffset, unknownOffset, tidCount}
 use Rattle.base_lists.specs.Seq.{pick, bit}
 use Rattle.base_octets.specs.Octets.{num, enc, gets}
 use Rattle.table_record.specs.declared.Role.{Role}
@@ -90,7 +90,7 @@ rcvTid Responder tid = tid
 unfoldable pub flagsOf : Record → ℕ
 flagsOf r = bit (r .«user_ack») + 2 * bit (r .«hold_on») + 4 * bit (r .«tidok_sent») + 8 * bit (r .«hold_on_sent») + 16 * bit (r .tidnew)
 
--- the fields of 24 octets: state, peer, TID, RCR, AEC, flags, length of the exit information, deadline, message length, waiting limit in force
+-- the fields of 25 octets: state, peer, TID, RCR, AEC, flags, length of the exit information, deadline, message length, waiting limit in force, identity of an unknown item
 unfoldable pub decoded : List ℕ → Record
 decoded w = record {
   state = stateOf (getD w 0 0);
@@ -107,13 +107,14 @@ decoded w = record {
   deadline = num (gets 8 deadlineOffset w);
   len = num (gets 4 lenOffset w);
   limit = num (gets 4 limitOffset w);
+  unknown = getD w unknownOffset 0;
 }
 
--- the 24 octets of a record
+-- the 25 octets of a record
 unfoldable pub octetsOf : Record → List ℕ
 octetsOf r =
     (stateNumber (r .state) ∷ r .peer ∷ [])
-    ++ (enc 2 (r .tid) ++ ((r .rcr .0 ∷ r .aec .0 ∷ flagsOf r ∷ r .«exit_len» ∷ []) ++ (enc 8 (r .deadline) ++ (enc 4 (r .len) ++ enc 4 (r .limit)))))
+    ++ (enc 2 (r .tid) ++ ((r .rcr .0 ∷ r .aec .0 ∷ flagsOf r ∷ r .«exit_len» ∷ []) ++ (enc 8 (r .deadline) ++ (enc 4 (r .len) ++ (enc 4 (r .limit) ++ (r .unknown ∷ []))))))
 
 -- the numbers of a record have room in these octets
 pub record Fits (r : Record) : Type 0 where

@@ -35,7 +35,8 @@ pub struct Rcr(pub u8);
 // 01, "Events": how many acknowledgement intervals the user let pass.
 pub struct Aec(pub u8);
 
-// A record without its exit information, which stays in the table. The deadline 0 is no timer; `limit` is the waiting limit that the deadline is, 0 where it is none.
+// A record without its exit information, which stays in the table. The deadline 0 is no timer; `limit` is the waiting limit that the deadline is, 0 where it is none;
+// `unknown` the identity of the unknown item that its Acks name, 0 none.
 pub struct Record {
     pub state: State,
     pub peer: u8,
@@ -51,6 +52,7 @@ pub struct Record {
     pub deadline: u64,
     pub len: u32,
     pub limit: u32,
+    pub unknown: u8,
 }
 
 pub fn role_of(s: State) -> Role
@@ -162,7 +164,7 @@ fn flags_of(r: Record) -> u8
         + 16 * base_lists::bit(r.tidnew)
 }
 
-// The record of 24 octets.
+// The record of 25 octets.
 pub fn decode(w: &[u8]) -> Record
     requires { ⌜ fieldsSize ≤ length (now w) ⌝ }
     ensures { λ r. ⌜ r ≡ decoded (now (w .entry)) ⌝ }
@@ -184,10 +186,11 @@ pub fn decode(w: &[u8]) -> Record
         deadline: base_octets::get64(w, base_layout::DEADLINE_OFFSET),
         len: base_octets::get32(w, base_layout::LEN_OFFSET),
         limit: base_octets::get32(w, base_layout::LIMIT_OFFSET),
+        unknown: w[base_layout::UNKNOWN_OFFSET],
     }
 }
 
-// The 24 octets of a record.
+// The 25 octets of a record.
 pub fn encode(r: Record) -> [u8; base_layout::FIELDS_SIZE]
     ensures { λ w. ⌜ w ≡ octetsOf r ⌝ }
 {
@@ -223,5 +226,6 @@ pub fn encode(r: Record) -> [u8; base_layout::FIELDS_SIZE]
         m[1],
         m[2],
         m[3],
+        r.unknown,
     ]
 }

@@ -9,13 +9,14 @@ use native.Mathlib.Nat.{add-zero}
 use lib.ListN.{getD}
 use lib.Dec.{eqb}
 use borrow.Author.Tests.{leb-true, le-leb, eqb-false, eq-eqb, ne-eqb}
-use Rattle.base_layout.specs.Layout.{recordSize, spareSize, base, spareBase}
+use Rattle.base_layout.specs.Layout.{recordSize, spareSize, base, spareBase, peerBound}
 use Rattle.base_lists.proofs.StoresAndParts.{told}
 use Rattle.table_record.specs.Record.{stateNumber}
 use Rattle.table_record.specs.declared.Record.{Record}
 use Rattle.table_layout.specs.Table.{recordAt}
 use Rattle.table_layout.specs.declared.Settings.{Settings}
 use Rattle.table_ranges.proofs.Tests.{Each, each, all}
+use Rattle.table_ranges.proofs.Unknown.{unknown-to, unknown-from}
 use Rattle.table_ranges.proofs.Zeros.{zeros-to, zeros-from}
 use Rattle.table_record_ok.specs.OneRecord.{Live, Bounded, LiveOk, FreeOk, RecordOk, rangeTests, inRange, liveTests, liveOk, recordOk}
 use Rattle.table_record_ok.proofs.States.{octet-known, octet-live}
@@ -24,13 +25,23 @@ bounds-to : (s : Settings) (r : Record) → inRange s r ≡ true → Bounded s r
 unfolding inRange
 bounds-to s r h =
     let e : Each (rangeTests s r) = each (rangeTests s r) h in
-    omega (arith, leb-true)
+    record {
+      tid = leb-true _ _ (e .0);
+      rcr = leb-true _ _ (e .1 .0);
+      aec = leb-true _ _ (e .1 .1 .0);
+      exit = leb-true _ _ (e .1 .1 .1 .0);
+      deadline = leb-true _ _ (e .1 .1 .1 .1 .0);
+      message = leb-true _ _ (e .1 .1 .1 .1 .1 .0);
+      tidnew = leb-true _ _ (e .1 .1 .1 .1 .1 .1 .0);
+      limit = leb-true _ _ (e .1 .1 .1 .1 .1 .1 .1 .0);
+      unknown = unknown-to _ (e .1 .1 .1 .1 .1 .1 .1 .1 .0);
+      peer = omega (arith, leb-true (r .peer) peerBound (e .1 .1 .1 .1 .1 .1 .1 .1 .1));
+    }
 
 bounds-from : (s : Settings) (r : Record) → Bounded s r → inRange s r ≡ true
 unfolding inRange
 bounds-from s r h =
-    let e : Each (rangeTests s r) = omega (arith, le-leb) in
-    all (rangeTests s r) e
+    all (rangeTests s r) (le-leb _ _ (h .tid), (le-leb _ _ (h .rcr), (le-leb _ _ (h .aec), (le-leb _ _ (h .exit), (le-leb _ _ (h .deadline), (le-leb _ _ (h .message), (le-leb _ _ (h .tidnew), (le-leb _ _ (h .limit), (unknown-from _ (h .unknown), le-leb (r .peer) peerBound (omega (arith, h .peer)))))))))))
 
 live-to : (t : List ℕ) (s : Settings) (i : ℕ) → 1 ≤ getD t (base i) 0 → liveOk t s i ≡ true → LiveOk t s i
 unfolding liveOk

@@ -13,7 +13,7 @@ use Rattle.table_record.specs.declared.Role.the-variants.{Initiator, Responder}
 use Rattle.table_record.specs.declared.Record.{Record}
 use Rattle.table_layout.specs.Table.{recordAt}
 use Rattle.table_layout.specs.declared.Settings.{Settings}
-use Rattle.table_ranges.specs.Ranges.{Zeros, zeros, allOf}
+use Rattle.table_ranges.specs.Ranges.{UnknownOk, unknownOk, Zeros, zeros, allOf}
 
 -- a record is live when its state isn't free
 abbrev pub Live : Record → Type 0
@@ -35,6 +35,8 @@ pub record Bounded (s : Settings) (r : Record) : Type 0 where
   pub tidnew : bit (r .tidnew) ≤ tidnewBound (roleOf (r .state))
   -- 02, L6: "a waiting limit, 1 to 86,400,000", and 0 where none is in force
   pub limit : r .limit ≤ intervalBound
+  -- 02, L4: "The record keeps that identity", 6 to 15, and 0 where there was none
+  pub unknown : UnknownOk (r .unknown)
   pub peer : r .peer < peers
 
 -- 01: "all fields are in range (a state for its role and class, ..)": a live record within its bounds
@@ -66,6 +68,7 @@ rangeTests s r =
     ∷ leb (r .len) cellSize
     ∷ leb (bit (r .tidnew)) (tidnewBound (roleOf (r .state)))
     ∷ leb (r .limit) intervalBound
+    ∷ unknownOk (r .unknown)
     ∷ leb (r .peer) peerBound
     ∷ []
 

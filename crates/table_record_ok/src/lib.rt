@@ -21,10 +21,12 @@ const CELL_SIZE: u32 = base_layout::CELL_SIZE as u32;
 
 const PEER_BOUND: u8 = base_layout::PEER_BOUND as u8;
 
-// The words of eight octets of a record, and of its spare octets.
+// The words of eight octets of a record, and of its spare octets; their last eight octets end at the exit information.
 const RECORD_WORDS: usize = RECORD_SIZE / 8;
 
 const SPARE_WORDS: usize = base_layout::SPARE_SIZE / 8;
+
+const LAST_SPARE: usize = base_layout::EXIT_OFFSET - 8;
 
 // Only an initiator's Invoke carries TIDnew.
 fn tidnew_bound(role: Role) -> u8
@@ -71,6 +73,9 @@ fn in_range(s: Settings, r: Record) -> bool
     if r.limit > base_layout::INTERVAL_BOUND {
         return false;
     }
+    if !table_ranges::unknown_ok(r.unknown) {
+        return false;
+    }
     r.peer <= PEER_BOUND
 }
 
@@ -78,8 +83,12 @@ fn spare_ok(t: &[u8], i: usize) -> bool
     requires { ⌜ headerSize + i * recordSize + recordSize ≤ length (now t) ⌝ }
     ensures { λ b. ⌜ b ≡ zeros (now (t .entry)) (spareBase i) spareSize ⌝ }
 {
-    let at = HEADER_SIZE + i * RECORD_SIZE + base_layout::SPARE_OFFSET;
-    table_ranges::zero_words(t, at, SPARE_WORDS)
+    let at = HEADER_SIZE + i * RECORD_SIZE;
+    if !table_ranges::zero_words(t, at + base_layout::SPARE_OFFSET, SPARE_WORDS) {
+        return false;
+    }
+    // It overlaps the words before it, so that no octet is read by itself.
+    base_octets::get64(t, at + LAST_SPARE) == 0
 }
 
 // A record whose state octet isn't zero.

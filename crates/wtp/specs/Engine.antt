@@ -2,18 +2,34 @@
 use Prim.Native.Nat.{ℕ}
 use mathlib.Core.List.{List}
 use lib.ListN.{length}
+use Rattle.base_layout.specs.Layout.{answerSize}
 use Rattle.base_numbers.specs.Numbers.{numberOf}
 use Rattle.base_numbers.specs.declared.Refusal.the-variants.{WrongSize}
+use Rattle.codec_items.specs.Unknown.{noUnknown}
+use Rattle.codec_items.specs.declared.Unknown.{Unknown}
+use Rattle.codec_pdu.specs.Pdu.{unknownOf}
+use Rattle.codec_reading.specs.Read.{pduOf}
 use Rattle.step_outcome.specs.Carry.{Lent, Done}
 use Rattle.call_plans.specs.Calls.{Call, promised}
 pub use Rattle.c_answers.specs.Handed.{Called, called}
-unfoldable pub use Rattle.c_answers.specs.Handed.{handed}
+unfoldable pub use Rattle.c_answers.specs.Handed.{handed, told}
+use Rattle.c_answers.specs.Answers.{moreWords}
 use Rattle.c_codec.specs.Calls.{orSize}
 
--- the C interface: "`answer` has at least 32 words .. else number 1", and then "A refused .. call changes no lent byte and no lent word"
-unfoldable pub orSmall : Lent → List ℕ → Done → Called
-orSmall l words d = orSize 32 (length words) (called (numberOf WrongSize) (l .table) (l .store) (l .output) words) (handed d words)
+-- the C interface: "fewer give 1", and then "A refused .. call changes no lent byte and no lent word"
+unfoldable pub orSmall : Lent → List ℕ → Done → (more : List ℕ) → Called
+orSmall l words d more = orSize answerSize (length words) (called (numberOf WrongSize) (l .table) (l .store) (l .output) words) (told (handed d words) more)
+
+-- 02, L4: "Reading a PDU must also tell the identity and place of the first item it does not know [..], and every caller passes that up"; in other calls there is no PDU
+unfoldable pub itemTold : Call → Lent → Unknown
+itemTold (Call.Request time peer class userAck) l = noUnknown
+itemTold (Call.Answer time role peer tid) l = noUnknown
+itemTold (Call.Result time role peer tid) l = noUnknown
+itemTold (Call.Abort time role peer tid reason) l = noUnknown
+itemTold (Call.Receive time peer) l = unknownOf (pduOf (l .given))
+itemTold (Call.Timer time) l = noUnknown
+itemTold (Call.Fire time role peer tid) l = noUnknown
 
 -- what a caller of wtp_request, wtp_answer, wtp_result, wtp_abort, wtp_receive, wtp_timer or wtp_fire sees; in wtp_request "a flag parameter: 0 is off, any other value on"
 abbrev pub calledBy : Call → Lent → List ℕ → Called
-calledBy c l words = orSmall l words (promised c l)
+calledBy c l words = orSmall l words (promised c l) (moreWords (itemTold c l))

@@ -3,6 +3,7 @@ ghost use mathlib.Core.Path.{_≡_};
 ghost use mathlib.Core.List.{[]};
 ghost use lib.ListN.{length};
 ghost use lib.Dec.{ltb};
+ghost use Rattle.base_layout.specs.Layout.{answerSize};
 ghost use Rattle.step_outcome.specs.Carry.{lent};
 ghost use Rattle.table_fresh.specs.Fresh.{tableBytes, freshAnswer, freshNumber, tableAfterFresh};
 ghost use Rattle.c_codec.specs.Calls.{readNumber, fieldsAfter, writeNumber, writeOutput, writeAnswer, separateNumber, partAfter, joinNumber, joinOutput, joinAnswer};
@@ -82,11 +83,11 @@ pub extern "C" fn wtp_data<'a>(
     c_parts::shown_data(datagram, store, answer, k, out)
 }
 
-// The words of an answer are fewer than 32.
+// The words of an answer are fewer than 40.
 fn too_few(answer: &[u64]) -> bool
-    ensures { λ r. ⌜ r ≡ ltb (length (now (answer .entry))) 32 ⌝ }
+    ensures { λ r. ⌜ r ≡ ltb (length (now (answer .entry))) answerSize ⌝ }
 {
-    answer.len() < 32
+    answer.len() < base_layout::ANSWER_SIZE
 }
 
 // A user's request of a class with its data.
@@ -107,17 +108,18 @@ pub extern "C" fn wtp_request(
     if too_few(answer) {
         return base_numbers::number(Refusal::WrongSize);
     }
-    call_engine::request(
+    let r = call_engine::request(
         table,
         store,
         out,
-        answer,
+        &mut *answer,
         time,
         peer,
         class,
         0 < user_ack,
         user,
-    )
+    );
+    c_answers::tell(answer, r, step_arrivals::no_item())
 }
 
 // A user's answer with exit information.
@@ -138,7 +140,8 @@ pub extern "C" fn wtp_answer(
     if too_few(answer) {
         return base_numbers::number(Refusal::WrongSize);
     }
-    call_engine::answer(table, store, out, answer, time, role, peer, tid, exit)
+    let r = call_engine::answer(table, store, out, &mut *answer, time, role, peer, tid, exit);
+    c_answers::tell(answer, r, step_arrivals::no_item())
 }
 
 // A user's result with its data.
@@ -159,7 +162,8 @@ pub extern "C" fn wtp_result(
     if too_few(answer) {
         return base_numbers::number(Refusal::WrongSize);
     }
-    call_engine::result(table, store, out, answer, time, role, peer, tid, user)
+    let r = call_engine::result(table, store, out, &mut *answer, time, role, peer, tid, user);
+    c_answers::tell(answer, r, step_arrivals::no_item())
 }
 
 // A user's abort with its reason.
@@ -180,7 +184,18 @@ pub extern "C" fn wtp_abort(
     if too_few(answer) {
         return base_numbers::number(Refusal::WrongSize);
     }
-    call_engine::abort(table, store, out, answer, time, role, peer, tid, reason)
+    let r = call_engine::abort(
+        table,
+        store,
+        out,
+        &mut *answer,
+        time,
+        role,
+        peer,
+        tid,
+        reason,
+    );
+    c_answers::tell(answer, r, step_arrivals::no_item())
 }
 
 // One PDU that came from a peer.
@@ -199,7 +214,9 @@ pub extern "C" fn wtp_receive(
     if too_few(answer) {
         return base_numbers::number(Refusal::WrongSize);
     }
-    call_engine::receive(table, store, out, answer, time, peer, octets)
+    let r = call_engine::receive(table, store, out, &mut *answer, time, peer, octets);
+    let item = step_arrivals::unknown_item(octets);
+    c_answers::tell(answer, r, item)
 }
 
 // Fires one due record.
@@ -216,7 +233,8 @@ pub extern "C" fn wtp_timer(
     if too_few(answer) {
         return base_numbers::number(Refusal::WrongSize);
     }
-    call_engine::timer(table, store, out, answer, time)
+    let r = call_engine::timer(table, store, out, &mut *answer, time);
+    c_answers::tell(answer, r, step_arrivals::no_item())
 }
 
 // Tells the earliest deadline and its record in five words, and changes nothing else: it takes no time and is no entry of a history.
@@ -244,5 +262,6 @@ pub extern "C" fn wtp_fire(
     if too_few(answer) {
         return base_numbers::number(Refusal::WrongSize);
     }
-    call_engine::fire_named(table, store, out, answer, time, role, peer, tid)
+    let r = call_engine::fire_named(table, store, out, &mut *answer, time, role, peer, tid);
+    c_answers::tell(answer, r, step_arrivals::no_item())
 }

@@ -11,5 +11,5 @@ unfolding openedTurn openedGiven openedCall userPart asPdu
 opened-by-spec =
     tie.close (tie.spec
     (λ c κs. search needs) (λ c κs. search needs)
-    (λ c. kept-fits _ _ (c .before .before .kept-part .ensures))
-    (λ c. simp (c .before .no-part .ensures, c .before .before .kept-part .ensures)))
+    (λ c. kept-fits _ _ (c .before .before .before .kept-part .ensures))
+    (λ c. simp (c .before .before .no-part .ensures, c .before .before .before .kept-part .ensures)))

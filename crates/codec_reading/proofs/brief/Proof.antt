@@ -16,26 +16,27 @@ use Rattle.codec_reading.proofs.brief.Tie as tie
 
 ended-requires : tie.Need-ended-requires
 ended-requires c κs =
-    let s = now (c .before .before .before .before .before .before .before .args .s) in
-    let some : 1 ≤ length s = omega (arith, c .before .before .before .before .before .if1 .left) in
-    rw (c .end-after .ensures, c .before .before .before .head-of .ensures) (after-inside s (headOf s) some (head-inside s))
+    let s = now (c .before .before .before .before .before .before .before .before .args .s) in
+    let some : 1 ≤ length s = omega (arith, c .before .before .before .before .before .before .if1 .left) in
+    rw (c .before .before .end-after .ensures, c .before .before .before .before .head-of .ensures) (after-inside s (headOf s) some (head-inside s))
 
 returns-3 : tie.Need-returns-3
 returns-3 c =
     let e = c .before in
-    let s = now (e .before .before .before .before .before .before .before .args .s) in
-    let h = e .before .before .before .head-of in
-    let some : 1 ≤ length s = omega (arith, e .before .before .before .before .before .if1 .left) in
-    let sound = sym (ap (λ (x : Head). soundOf (x .kind)) (h .ensures)) ∙ sym (e .before .before .sound .ensures) ∙ e .before .if3 .taken in
-    c .ended .ensures ∙ rw (e .end-after .ensures, h .ensures) (brief-sound s some (e .before .before .before .before .if2 .left) sound)
+    let s = now (e .before .before .before .before .before .before .before .before .args .s) in
+    let h = e .before .before .before .before .head-of in
+    let some : 1 ≤ length s = omega (arith, e .before .before .before .before .before .before .if1 .left) in
+    let sound = sym (ap (λ (x : Head). soundOf (x .kind)) (h .ensures)) ∙ sym (e .before .sound .ensures) ∙ e .if3 .taken in
+    c .ended .ensures ∙ rw (e .before .before .end-after .ensures, e .before .before .before .places-after .ensures, h .ensures) (brief-sound s some (e .before .before .before .before .before .if2 .left) sound)
 
 returns-4 : tie.Need-returns-4
 returns-4 c =
-    let s = now (c .before .before .before .before .before .before .before .args .s) in
-    let h = c .before .before .before .head-of in
-    let some : 1 ≤ length s = omega (arith, c .before .before .before .before .before .if1 .left) in
-    let unsound = sym (ap (λ (x : Head). soundOf (x .kind)) (h .ensures)) ∙ sym (c .before .before .sound .ensures) ∙ c .before .if3 .left in
-    c .blank-brief3 .ensures ∙ rw (h .ensures) (brief-unsound s some (c .before .before .before .before .if2 .left) unsound)
+    let e = c .before in
+    let s = now (e .before .before .before .before .before .before .before .before .args .s) in
+    let h = e .before .before .before .before .head-of in
+    let some : 1 ≤ length s = omega (arith, e .before .before .before .before .before .before .if1 .left) in
+    let unsound = sym (ap (λ (x : Head). soundOf (x .kind)) (h .ensures)) ∙ sym (e .before .sound .ensures) ∙ e .if3 .left in
+    c .blank-brief3 .ensures ∙ rw (h .ensures) (brief-unsound s some (e .before .before .before .before .before .if2 .left) unsound)
 
 pub brief-spec : {M : Type 1} → statement M
 unfolding pduOf
@@ -45,5 +46,5 @@ brief-spec =
     (λ c. simp (c .blank-brief .ensures, eq-eqb _ _ (c .before .if1 .taken)))
     (λ c κs. search needs)
     (λ c. simp (c .blank-brief2 .ensures, lt-ltb _ _ (c .before .if2 .taken), ne-eqb _ _ (c .before .before .if1 .left)))
-    (λ c κs. search needs) (λ c κs. search needs)
-    (λ c κs. search needs) ended-requires (λ c κs. search needs) returns-3 returns-4)
+    (λ c κs. search needs) (λ c κs. search needs) (λ c κs. search needs) (λ c κs. search needs)
+    ended-requires (λ c κs. search needs) returns-3 returns-4)

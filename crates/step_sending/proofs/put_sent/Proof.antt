@@ -17,13 +17,25 @@ returns-3 : tie.Need-returns-3
 unfolding octetsSent
 returns-3 c = rw (c .before .before .before .before .before .before .send2 .given .1, ← c .before .before .before .bit .ensures .0) (c .before .before .put-head .ensures)
 
+returns-4 : tie.Need-returns-4
+unfolding octetsSent
+returns-4 c = rw (c .before .before .before .before .before .before .send3 .given .1) (c .before .before .put-ack .ensures)
+
 returns-5 : tie.Need-returns-5
 unfolding octetsSent
-returns-5 c = rw (c .before .before .before .before .before .before .send4 .given .1, ← c .before .before .before .bit2 .ensures .0) (c .before .before .put-head2 .ensures)
+returns-5 c = rw (c .before .before .before .before .before .send4 .given .1) (c .before .before .put-ack2 .ensures)
+
+put-ack-requires : tie.Need-put-ack-requires
+unfolding FitSend
+put-ack-requires c κs = rw (c .before .before .before .send3 .given .1) at (c .before .before .before .before .before .before .before .pre)
+
+put-ack-requires-2 : tie.Need-put-ack-requires-2
+unfolding FitSend
+put-ack-requires-2 c κs = rw (c .before .before .send4 .given .1) at (c .before .before .before .before .before .before .pre)
 
 returns-6 : tie.Need-returns-6
 unfolding octetsSent
-returns-6 c = rw (c .before .before .before .before .before .before .send5 .given .1, ← c .before .before .before .bit3 .ensures .0) (c .before .before .put-head3 .ensures)
+returns-6 c = rw (c .before .before .before .before .before .before .send5 .given .1, ← c .before .before .before .bit2 .ensures .0) (c .before .before .put-head2 .ensures)
 
 returns-8 : tie.Need-returns-8
 unfolding octetsSent
@@ -35,14 +47,12 @@ put-sent-spec =
     (λ c. search needs) (λ c. search needs)
     (λ c κs. rw (c .before .before .send .given .1) at (c .before .before .before .before .before .before .pre))
     (λ c. search needs) (λ c κs. search needs) (λ c. search needs) (λ c κs. search needs) (λ c. search needs)
-    (λ c κs. rw (c .before .before .send3 .given .1) at (c .before .before .before .before .before .before .pre))
-    (λ c. search needs) (λ c κs. search needs) (λ c. search needs) (λ c κs. search needs) (λ c. search needs)
+    put-ack-requires (λ c. search needs) put-ack-requires-2 (λ c. search needs)
     (λ c κs. search needs) (λ c. search needs) (λ c κs. search needs) (λ c. search needs)
     (λ c κs. rw (c .before .before .send6 .given .1) at (c .before .before .before .before .before .before .pre))
     (λ c. search needs) put-abort-requires returns (λ c. search needs)
     (λ c. rw (c .before .before .before .before .before .send .given .1) (c .before .before .put-invoke .ensures))
-    (λ c. search needs) returns-3 (λ c. search needs)
-    (λ c. rw (c .before .before .before .before .before .send3 .given .1) (c .before .before .put-last-ack .ensures))
-    (λ c. search needs) returns-5 (λ c. search needs) returns-6 (λ c. search needs)
+    (λ c. search needs) returns-3 (λ c. search needs) returns-4 (λ c. search needs) returns-5 (λ c. search needs) returns-6
+    (λ c. search needs)
     (λ c. rw (c .before .before .before .before .before .send6 .given .1) (c .before .before .put-result .ensures))
     (λ c. search needs) returns-8)

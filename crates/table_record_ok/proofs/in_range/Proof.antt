@@ -31,6 +31,9 @@ past7 c = passes 6 _ (past6 (c .before .before)) (held (c .before .tidnew-ok .en
 past8 : (c : tie.Else8) → Passed 8 (rangeTests (c .before .before .before .before .before .before .before .before .before .before .before .before .before .before .before .before .before .before .args .s) (c .before .before .before .before .before .before .before .before .before .before .before .before .before .before .before .before .before .before .args .r))
 past8 c = passes 7 _ (past7 (c .before .before)) (le-leb _ _ (c .if8 .left))
 
+past9 : (c : tie.Else9) → Passed 9 (rangeTests (c .before .before .before .before .before .before .before .before .before .before .before .before .before .before .before .before .before .before .before .before .args .s) (c .before .before .before .before .before .before .before .before .before .before .before .before .before .before .before .before .before .before .before .before .args .r))
+past9 c = passes 8 _ (past8 (c .before .before)) (held (c .before .unknown-ok .ensures) (c .if9 .left))
+
 pub in-range-spec : {M : Type 1} → statement M
 unfolding inRange
 in-range-spec =
@@ -45,4 +48,6 @@ in-range-spec =
     (λ c κs. search needs)
     (λ c. fails 6 _ (past6 (c .before .before)) (broke (c .before .tidnew-ok .ensures) (c .if7 .taken)))
     (λ c. fails 7 _ (past7 (c .before .before)) (lt-leb _ _ (c .if8 .taken)))
-    (λ c. decides 8 _ _ (past8 (c .before)) refl refl))
+    (λ c κs. search needs)
+    (λ c. fails 8 _ (past8 (c .before .before)) (broke (c .before .unknown-ok .ensures) (c .if9 .taken)))
+    (λ c. decides 9 _ _ (past9 (c .before)) refl refl))
