@@ -40,7 +40,7 @@ extern "C" {
 /* Sizes, in elements. */
 #define WTP_SETTINGS 32 /* words of settings */
 #define WTP_FIELDS 88   /* words of a PDU */
-#define WTP_ANSWER 32   /* words of an answer, at least */
+#define WTP_ANSWER 40   /* words of an answer, at least */
 #define WTP_PART 3      /* words of a part */
 #define WTP_DUE 5       /* words of a deadline, at least */
 #define WTP_CELL 1024   /* octets of the store for each record of the table; data is as long at most */
@@ -72,7 +72,7 @@ extern "C" {
 #define WTP_FROM_DATAGRAM 0 /* its start counts from the first octet of the PDU that wtp_receive was lent */
 #define WTP_FROM_STORE 1    /* its start counts from the first octet of the store */
 
-/* Words of an answer; the last word is 0. */
+/* Words of an answer; those without a name are 0. */
 enum {
     WTP_SENT = 0,       /* octets at the start of the output that are to be sent, 0 none */
     WTP_INDICATIONS,    /* 0 to 2 */
@@ -82,7 +82,9 @@ enum {
     WTP_SECOND = 16,    /* the second indication */
     WTP_FIRED_ROLE = 28, /* wtp_timer, wtp_fire: the record that was fired, and so where the PDU goes */
     WTP_FIRED_PEER,
-    WTP_FIRED_TID
+    WTP_FIRED_TID,
+    WTP_TOLD_UNKNOWN_IDENTITY = 34, /* wtp_receive: the first item of the PDU that section 8.4 hasn't, 6 to 15, whatever the PDU did; */
+    WTP_TOLD_UNKNOWN_PLACE          /* and the place of the item's first octet in the PDU. Both 0: none, or the PDU is malformed */
 };
 
 /* Words of an indication, counted from WTP_FIRST or WTP_SECOND; the last word is 0. */
@@ -105,6 +107,7 @@ enum {
 enum {
     WTP_TYPE = 0, WTP_GTR, WTP_TTR, WTP_RID, WTP_TID, WTP_VERSION, WTP_TIDNEW, WTP_UP, WTP_CLASS, WTP_TVE,
     WTP_ABORT_TYPE, WTP_ABORT_REASON, WTP_PACKET, WTP_NACK_COUNT, WTP_NACK_START, WTP_ITEMS, WTP_USER_START, WTP_USER_LENGTH,
+    WTP_UNKNOWN_IDENTITY, WTP_UNKNOWN_PLACE, /* the first item that 8.4 hasn't, 6 to 15, and the place of its first octet; 0, 0: none */
     WTP_ITEM = 24 /* item k has the words WTP_ITEM + 4k: identity, 1 for the long form or 0, start and length of its data */
 };
 
@@ -127,9 +130,9 @@ uint64_t wtp_table_bytes(uint64_t records);
 uint64_t wtp_fresh(uint8_t *table, size_t table_len, const uint64_t *settings, size_t settings_len, uint64_t first_tid);
 
 /* The engine's seven calls share their first parameters. `table` is one that wtp_fresh made, `store` has 1,024 octets for each of its
- * records, `out` at least 1,028 octets and `answer` at least 32 words. Between two calls all four are the caller's, to keep or to
+ * records, `out` at least 1,028 octets and `answer` at least 40 words. Between two calls all four are the caller's, to keep or to
  * copy: the engine has no other memory. `now` is in milliseconds. An accepted call stores it, writes at most one PDU at the start
- * of `out` (for the peer that the call, or the fired record, names) and the first 32 words of `answer`. Each call gives the lowest
+ * of `out` (for the peer that the call, or the fired record, names) and the first 40 words of `answer`. Each call gives the lowest
  * number that applies; 1 (a size, a table that isn't well formed) and 2 (the time) apply to all seven. */
 
 /* Requests a transaction of class `cls` with `peer`: sends an Invoke with `data`, with the U/P flag where `user_ack` isn't 0, under
@@ -162,7 +165,8 @@ uint64_t wtp_abort(uint8_t *table, size_t table_len, uint8_t *store, size_t stor
 
 /* Takes one PDU that came from `peer`; a datagram is separated first (wtp_separate). A malformed PDU is an event and no refusal,
  * and what names no record and opens none is accepted and ignored. An Invoke with TIDnew that opens a record drops the TID that is
- * cached for `peer`, and is verified. What is sent goes to `peer`.
+ * cached for `peer`, and is verified. The record keeps the identity of the first unknown item of the Invoke that opened it, or of the
+ * Result that it took, and names it in an Error item of each hold-on and last Ack that it then sends. What is sent goes to `peer`.
  * 1, 2; 3: peer; 11: length outside 1 to 1,500. */
 uint64_t wtp_receive(uint8_t *table, size_t table_len, uint8_t *store, size_t store_len, uint8_t *out, size_t out_len,
                      uint64_t *answer, size_t answer_len, uint64_t now, uint64_t peer, const uint8_t *pdu, size_t pdu_len);
@@ -176,7 +180,7 @@ uint64_t wtp_timer(uint8_t *table, size_t table_len, uint8_t *store, size_t stor
 /* Copies the data of an indication (k is 0 for the first, 1 for the second) to the start of `out` and leaves the rest of it.
  * `datagram` is the PDU that the call was lent, any octets after a call that was lent none; `store` and `answer` are as the call
  * left them. The data's length is the indication's word WTP_SHOWN_LENGTH; a source other than 0 is the store.
- * 1: fewer than 32 words, or `out` is shorter than the data; 11: k over 1, or data that isn't there whole. */
+ * 1: fewer than 40 words, or `out` is shorter than the data; 11: k over 1, or data that isn't there whole. */
 uint64_t wtp_data(const uint8_t *datagram, size_t datagram_len, const uint8_t *store, size_t store_len,
                   const uint64_t *answer, size_t answer_len, uint64_t k, uint8_t *out, size_t out_len);
 
@@ -195,9 +199,9 @@ uint64_t wtp_fire(uint8_t *table, size_t table_len, uint8_t *store, size_t store
 uint64_t wtp_read(const uint8_t *pdu, size_t pdu_len, uint64_t *fields, size_t fields_len);
 
 /* Writes the PDU that `fields` says at the start of `out`; items, Nack list and user data lie in `bytes`, where their
- * starts count. Word 0 of the answer is the PDU's length, the other 31 are 0. What wtp_read wrote, handed on with the PDU as
- * `bytes`, gives the PDU with its reserved bits cleared.
- * 1: fewer than 88 words, 1,500 octets or 32 words of answer; then D2, 11, D1, D5, D6, D3 or D4, D7. */
+ * starts count. Word 0 of the answer is the PDU's length, the other 39 are 0. What wtp_read wrote, handed on with the PDU as
+ * `bytes`, gives the PDU with its reserved bits cleared; what it told of an unknown item is passed over, whatever it says.
+ * 1: fewer than 88 words, 1,500 octets or 40 words of answer; then D2, 11, D1, D5, D6, D3 or D4, D7. */
 uint64_t wtp_write(const uint64_t *fields, size_t fields_len, const uint8_t *bytes, size_t bytes_len,
                    uint8_t *out, size_t out_len, uint64_t *answer, size_t answer_len);
 
@@ -211,8 +215,8 @@ uint64_t wtp_separate(const uint8_t *datagram, size_t datagram_len, uint64_t k, 
 uint64_t wtp_read_part(const uint8_t *datagram, size_t datagram_len, uint64_t k, uint64_t *fields, size_t fields_len);
 
 /* Joins PDUs, which lie one after the other in `bytes` and have these lengths, to a datagram at the start of `out`.
- * Word 0 of the answer is the datagram's length, the other 31 are 0.
- * 1: fewer than 1,500 octets or 32 words of answer; 11: no PDU, a length outside 1 to 1,500, lengths that don't add up
+ * Word 0 of the answer is the datagram's length, the other 39 are 0.
+ * 1: fewer than 1,500 octets or 40 words of answer; 11: no PDU, a length outside 1 to 1,500, lengths that don't add up
  * to `bytes`, or a datagram over 1,500. */
 uint64_t wtp_join(const uint8_t *bytes, size_t bytes_len, const uint64_t *lengths, size_t lengths_len,
                   uint8_t *out, size_t out_len, uint64_t *answer, size_t answer_len);

@@ -1,7 +1,7 @@
 #!/usr/bin/env python3
 """Writes the codec cases and what they must give: tests/codec_cases/commands.txt and expected.txt.
 
-An independent reading of document 01 ("Bytes on the air", bench cases) and of the C interface's words: nothing
+An independent reading of document 01 ("Bytes on the air", bench cases), of document 02's L4 and of the C interface's words: nothing
 here is taken from the definitions or the code, so the program's output is compared with a second opinion.
 usage: tests/codec_cases.py [--check]   (--check: only say whether both files are as this script writes them)
 """
@@ -64,6 +64,9 @@ def read(s):
         k = 24 + 4 * w[15]
         w[k:k + 4] = [first // 8 % 16, long, start, length]
         w[15] += 1
+        # 02, L4: identities over 5 aren't in 8.4; the first such item is told, by its identity and its first octet
+        if first // 8 % 16 > 5 and w[18] == 0:
+            w[18], w[19] = first // 8 % 16, at
         at, con = start + length, first >= 128
     if typ in BARE:
         return 107 if at < len(s) else w
@@ -76,7 +79,7 @@ WORDS = {1: {1, 2, 3, 5, 6, 7, 8}, 2: {1, 2, 3}, 3: {3, 9}, 4: {10, 11}, 5: {1, 
 
 
 def write(w, src):
-    """The octets of the PDU that the words say, or the number that writing it gives."""
+    """The octets of the PDU that the words say, or the number that writing it gives. Words 18 and 19 are passed over."""
     typ = w[0]
     if typ not in HEADER:
         return 102
@@ -90,7 +93,7 @@ def write(w, src):
             return 101
         if k != 4 and w[k] > (WIDTH[k] if k in WORDS[typ] else 0):
             return 101
-    if typ != 7 and w[14] or typ in BARE and w[16] or any(w[18:24]) or any(w[24 + 4 * said:88]):
+    if typ != 7 and w[14] or typ in BARE and w[16] or any(w[20:24]) or any(w[24 + 4 * said:88]):
         return 101
     if w[14] + nacks > len(src) or w[16] + w[17] > len(src):
         return 101
@@ -246,6 +249,15 @@ def reading():
               "960005 0F 02 AABB", "960005 7D 01 77 55", "960005 8A AABB 0C 01 CC 0102", "960005 80", "960005", "9E000510 2A01 AA".replace("9E0005", "8E0005")):
         r(t.replace(" ", ""))
     r("960005", "0CFF", [0x41] * 255, "55"), r("960005", "0CFF", [0x41] * 254)
+    note("02, L4: the first item that isn't known, by its identity and its place: every identity in either form, in every type, after known ones and before them")
+    for k in range(16):
+        r("960005%02X55" % (8 * k)), r("980005%02X01AA" % (8 * k + 4))
+    for t in ("8E004011 9109 9A0102 7902 EE", "8E00400130", "8E004202 7D00 EE", "968005 8A0102 4B030405 DD", "978005 50", "9C9005 30", "AE000501 B0 38 AA", "B6800501 9101 70", "B80005 02 AABB 30", "A08005 08 B8 30", "A18005 08 89AA 78",
+              "980005 811F 0AAABB", "960005 B0 38", "960005 B8 30", "960005 80 88 90 98 A0 A8 30", "960005 80 88 90 98 A0 28"):
+        r(t.replace(" ", ""))
+    note("sixteen items that are all unknown, that none is, and of which the last is; a seventeenth; an unknown item that is cut")
+    r("960005", [0xF8 - 8 * k for k in range(10)], [0xF8 - 8 * k for k in range(5)], "30", "55"), r("960005", [0xB0] * 15, "30"), r("980005", [0xA8] * 15, "28"), r("8E000502", [0x80] * 15, "78"), r("960005", [0xB0] * 16, "30")
+    r("96000579"), r("9600057C"), r("960005B07C02AA"), r("960005B0"), r("9800053000"), r("8E00050330"), r("A200050830"), r("C0000530"), r("B800050230")
     note("15, 16 and 17 items; the sixteenth cut; the sixteenth with CON and nothing after it")
     r("960005", [0x88] * 14, "08", "55"), r("960005", [0x88] * 15, "08", "55"), r("960005", [0x88] * 16, "08")
     r("960005", [0x88] * 16), r("960005", [0x88] * 15), r("960005", [0x88] * 15, "0A01"), r("960005", [0x88] * 15, "8A01"), r("980005", [0x88] * 15, "08"), r("980005", [0x88] * 15, "0800")
@@ -268,12 +280,16 @@ def writing():
     w(invoke(_17=1497), [0] * 1497), w(invoke(_17=1496), [0] * 1496), w(invoke(_17=big)), w(invoke(_5=4, _17=1497), [0] * 1497)
     w({0: 7, 4: 5, 13: 255, 17: 1242}, [0] * 1300), w({0: 7, 4: 5, 13: 255, 17: 1241}, [0] * 1300)
     note("D1: one past each width, and a word that the type hasn't")
-    for k, v in ((1, 2), (2, 2), (3, 2), (4, 65536), (5, 4), (6, 2), (7, 2), (8, 4), (9, 1), (10, 1), (11, 1), (12, 1), (13, 1), (14, 1), (18, 1), (23, 1), (24, 1), (87, 1)):
+    for k, v in ((1, 2), (2, 2), (3, 2), (4, 65536), (5, 4), (6, 2), (7, 2), (8, 4), (9, 1), (10, 1), (11, 1), (12, 1), (13, 1), (14, 1), (20, 1), (21, 1), (22, 1), (23, 1), (24, 1), (87, 1)):
         w(invoke(**{"_%d" % k: v}))
     w({0: 4, 4: 5, 10: 8}), w({0: 4, 4: 5, 11: 256}), w({0: 5, 4: 5, 12: 256}), w({0: 7, 4: 5, 13: 256}, [0] * 300), w({0: 2, 4: 5, 8: 1}), w({0: 3, 4: 5, 1: 1}), w({0: 3, 4: 5, 16: 1}, "AA")
     w({0: 3, 4: 5, 9: 1, 3: 1}), w({0: 3, 4: 5, 9: 2})
     w({0: 7, 4: 5, 13: 2, 14: 1}, "AABBCC"), w({0: 7, 4: 5, 13: 2, 14: 2}, "AABBCC"), w({0: 7, 4: 5, 14: 3}, "AABBCC"), w({0: 7, 4: 5, 14: 4}, "AABBCC"), w({0: 7, 4: 5, 13: 2, 14: big}, "AABBCC")
     w(invoke(_16=1, _17=2), "AABBCC"), w(invoke(_16=2, _17=2), "AABBCC"), w(invoke(_16=3), "AABBCC"), w(invoke(_16=4), "AABBCC"), w(invoke(_16=big, _17=1), "AABBCC")
+    note("02, L4: words 18 and 19 are passed over, whatever they say; 20 to 23 are not")
+    for k in (18, 19):
+        w(invoke(**{"_%d" % k: 1})), w(invoke(**{"_%d" % k: big})), w({0: 3, 4: 5, k: 6}), w({0: 3, 4: 5, 15: 1, 24: 9, k: big})
+    w(invoke(_18=15, _19=9, _20=1)), w(invoke(_18=15, _19=9)), w({0: 4, 4: 5, 10: 2, 18: big, 19: big}), w({0: 0, 18: 6}), w({0: 2, 4: 5, 15: 1, 24: 16, 18: 6, 19: 3})
     note("D1 of items: identity 16, form 2, short length 4, long length 256")
     w({0: 2, 4: 5, 15: 1, 24: 16}, "AA"), w({0: 2, 4: 5, 15: 1, 24: 1, 25: 2}, "AA"), w({0: 2, 4: 5, 15: 1, 24: 1, 27: 4}, "AABBCCDD"), w({0: 2, 4: 5, 15: 1, 24: 1, 25: 1, 27: 256}, [7] * 256), w({0: 2, 4: 5, 15: 1, 24: 1, 25: 1, 27: 255}, [7] * 256)
     note("D5, D6, D3, D4, D7 and their order")

@@ -1,7 +1,7 @@
 #!/usr/bin/env python3
 """Writes how many damaged tables must be refused: tests/damage/expected.txt.
 
-An independent reading of document 01's "well formed" (document 02 as far as it has landed: L2, L6) over the layout of docs/TABLE.md; nothing
+An independent reading of document 01's "well formed" (document 02 as far as it has landed: L2, L6, L4) over the layout of docs/TABLE.md; nothing
 here is taken from the definitions or the code.
 usage: tests/damage.py [--check]
 """
@@ -12,7 +12,7 @@ import sys
 
 HEADER, RECORD, COUNT = 624, 176, 2
 # where the fields of docs/TABLE.md start, RCR_MAX with AEC_MAX, A with W, R with R, RCR with AEC and flags with the exit length taken together
-FIELDS = [0, 8, 10, 12, 20, 92, 96, 97, 98, 112] + [HEADER + RECORD * i + at for i in range(COUNT) for at in (0, 1, 2, 4, 6, 8, 16, 20, 24, 48)] + [HEADER + RECORD * COUNT]
+FIELDS = [0, 8, 10, 12, 20, 92, 96, 97, 98, 112] + [HEADER + RECORD * i + at for i in range(COUNT) for at in (0, 1, 2, 4, 6, 8, 16, 20, 24, 25, 48)] + [HEADER + RECORD * COUNT]
 
 
 def number(octets):
@@ -34,7 +34,8 @@ def record_ok(r, rcr_max, aec_max):
     if r[0] == 0:
         return not any(r)
     return (r[0] <= 11 and number(r[2:4]) <= 32767 and r[4] <= rcr_max and r[5] <= aec_max and r[6] <= (31 if r[0] <= 4 else 15) and r[7] <= 128
-            and number(r[8:16]) <= 10 ** 12 + 86400000 and number(r[16:20]) <= 1024 and number(r[20:24]) <= 86400000 and not any(r[24:48]))
+            and number(r[8:16]) <= 10 ** 12 + 86400000 and number(r[16:20]) <= 1024 and number(r[20:24]) <= 86400000
+            and (r[24] == 0 or 6 <= r[24] <= 15) and not any(r[25:48]))
 
 
 def name(r):
@@ -77,6 +78,8 @@ text += ["an initiator whose Invoke carries TIDnew, and a responder"] + damaged(
 table[92], table[96] = 1, 1
 table[HEADER + 20:HEADER + 24] = (86400000).to_bytes(4, "little")
 text += ["the same with a waiting limit of 1, the first record with the longest in force"] + damaged(table)
+table[HEADER + 24], table[HEADER + RECORD + 24] = 6, 15
+text += ["the same with the identity of an unknown item in both records"] + damaged(table)
 text = "\n".join(text) + "\n"
 path = pathlib.Path(__file__).resolve().parent / "damage" / "expected.txt"
 if "--check" in sys.argv[1:]:

@@ -1,4 +1,4 @@
-"""An engine read from document 01 ("Numbers given back", "TIDs", "Events"), from document 02 as far as it has landed (L3, L2, L6), from
+"""An engine read from document 01 ("Numbers given back", "TIDs", "Events"), from document 02 as far as it has landed (L3, L2, L6, L4), from
 the C interface's words and from docs/TABLE.md, and not from the definitions: a second opinion on what each call gives. It notes in `reached`
 each row, test and refusal that a call meets.
 """
@@ -6,7 +6,7 @@ each row, test and refusal that a call meets.
 BOUND = 10 ** 12
 LONGEST = 86400000
 HEADER, RECORD, CELL = 624, 176, 1024
-LIMIT, SPARE, EXIT = 20, 24, 48
+LIMIT, UNKNOWN, SPARE, EXIT = 20, 24, 25, 48
 WAITING_LIMIT, MODES, TIDNEW_DUE, CACHE = 92, 96, 97, 112
 INITIATOR, RESPONDER = 0, 1
 ROLES = ["initiator", "responder"]
@@ -29,12 +29,13 @@ class Record:
         self.state, self.peer, self.tid, self.rcr, self.aec = STATES[w[0]], w[1], number(w[2:4]), w[4], w[5]
         self.up, self.held, self.tidok_sent, self.hold_on_sent, self.tidnew = (w[6] >> k & 1 for k in range(5))
         self.deadline, self.length, self.exit, self.past_exit = number(w[8:16]), number(w[16:20]), bytes(w[EXIT:EXIT + w[7]]), bytes(w[EXIT:RECORD])
-        self.limit = number(w[LIMIT:SPARE])
+        self.limit, self.unknown = number(w[LIMIT:UNKNOWN]), w[UNKNOWN]
 
     def octets(self):
         marks = self.up + 2 * self.held + 4 * self.tidok_sent + 8 * self.hold_on_sent + 16 * self.tidnew
         w = bytes([STATES.index(self.state), self.peer]) + self.tid.to_bytes(2, "little") + bytes([self.rcr, self.aec, marks, len(self.exit)])
-        w += self.deadline.to_bytes(8, "little") + self.length.to_bytes(4, "little") + self.limit.to_bytes(4, "little") + bytes(EXIT - SPARE)
+        w += self.deadline.to_bytes(8, "little") + self.length.to_bytes(4, "little") + self.limit.to_bytes(4, "little")
+        w += bytes([self.unknown]) + bytes(EXIT - SPARE)
         return w + self.exit + self.past_exit[len(self.exit):]
 
     def live(self):
@@ -80,6 +81,11 @@ def limit_ok(modes, limit):
     return (modes, limit) == (0, 0) or modes == 1 and 1 <= limit <= LONGEST
 
 
+def is_known(identity):
+    """8.4, table 25: Error, Info, Option, PSN, SDU Boundary, Frame Boundary."""
+    return identity < 6
+
+
 def well_formed(t):
     """01: all fields in range, free records zero, no two live records with the same role, peer and TID."""
     if number(t[0:8]) > BOUND or number(t[8:10]) > 32767 or t[10] > 8 or t[11] > 8 or t[TIDNEW_DUE] > 1 or any(t[TIDNEW_DUE + 1:CACHE]):
@@ -97,7 +103,9 @@ def well_formed(t):
             continue
         if w[0] > 11 or number(w[2:4]) > 32767 or w[4] > t[10] or w[5] > t[11] or w[6] > (31 if w[0] <= 4 else 15) or w[7] > 128 or any(w[SPARE:EXIT]):
             return False
-        if number(w[8:16]) > BOUND + LONGEST or number(w[16:20]) > CELL or number(w[LIMIT:SPARE]) > LONGEST:
+        if w[UNKNOWN] and (is_known(w[UNKNOWN]) or w[UNKNOWN] > 15):
+            return False
+        if number(w[8:16]) > BOUND + LONGEST or number(w[16:20]) > CELL or number(w[LIMIT:UNKNOWN]) > LONGEST:
             return False
         names.append((w[0] <= 4, w[1], number(w[2:4])))
     return len(set(names)) == len(names)
@@ -106,7 +114,8 @@ def well_formed(t):
 # ---- PDUs, 01 "Bytes on the air"
 
 class Pdu:
-    """A PDU that is well formed: its fields, the place of its user data and of its first Info item."""
+    """A PDU that is well formed: its fields, the place of its user data and of its first Info item, and identity and place of its first
+    item that isn't known."""
 
     def __init__(self, s):
         self.typ, flags, self.tid = s[0] >> 3 & 15, s[0] & 7, s[1] << 8 & 32512 | s[2]
@@ -114,6 +123,7 @@ class Pdu:
         self.abort_type = flags
         self.fourth = s[3] if len(s) > 3 else 0
         self.info = self.user = None
+        self.unknown = (0, 0)
 
     def kind(self):
         """The event's name, each PDU and flag that a row may ask for apart."""
@@ -141,8 +151,11 @@ def parse(s):
         start, length = (at + 2, s[at + 1]) if s[at] & 4 else (at + 1, s[at] & 3)
         if start + length > len(s):
             return None
-        if s[at] >> 3 & 15 == 1 and p.info is None:
+        identity = s[at] >> 3 & 15
+        if identity == 1 and p.info is None:
             p.info = (start, length)
+        if not is_known(identity) and p.unknown == (0, 0):
+            p.unknown = (identity, at)
         more, at, left = s[at] >> 7, start + length, left - 1
     if p.typ in (3, 4, 7) and at < len(s):
         return None
@@ -159,8 +172,17 @@ def exit_item(x):
     return b"" if not x else bytes([8 + len(x)]) + x if len(x) <= 3 else bytes([12, len(x)]) + x
 
 
-def last_ack(r, rid):
-    return pdu((0x98 if r.exit else 0x18) + rid, r.role(), r.tid, exit_item(r.exit))
+def error_item(identity, more):
+    """02, L4: 8.4.2 in the short form, error code 1 in the high half and the identity in the low; CON where another item follows."""
+    return bytes([0x81 if more else 0x01, 0x10 + identity]) if identity else b""
+
+
+def plain_ack(r, rid, exit_info):
+    """A hold-on or last Ack: the Error item where the record keeps an identity, then the exit information where there is some."""
+    form = "long exit" if len(exit_info) > 3 else "short exit" if exit_info else "no exit"
+    reached.add(("Ack again" if rid else "Ack", r.state, form + (", unknown item" if r.unknown else "")))
+    items = error_item(r.unknown, exit_info) + exit_item(exit_info)
+    return pdu((0x98 if items else 0x18) + rid, r.role(), r.tid, items)
 
 
 def invoke_pdu(tid, cls, up, tidnew, rid, octets):
@@ -182,7 +204,7 @@ class Call:
     def __init__(self, end, table, time):
         self.end, self.t, self.time = end, table, time
         self.sent, self.shown, self.tid, self.fired, self.met, self.refusal, self.changed = b"", [], None, None, "", 0, []
-        self.by_name = False
+        self.by_name, self.unknown = False, (0, 0)
 
     def meet(self, state, event, row, condition=""):
         self.met = " {%s %s %s}" % (state, EVENT_NAME[event], row)
@@ -213,6 +235,11 @@ class Call:
         reached.add(("no timer", row, "limit" if self.t.modes else "no limit"))
         r.deadline, r.limit = self.time + self.t.limit if self.t.modes else 0, self.t.limit
 
+    def take_identity(self, r, p, row):
+        """02, L4: the record keeps the identity of the PDU's first unknown item, 0 where it has none."""
+        reached.add(("identity", row, "unknown item" if p.unknown[0] else "none, and one before" if r.unknown else "none"))
+        r.unknown = p.unknown[0]
+
     def provider_abort(self, r, reason):
         self.sent = pdu(0x20, r.role(), r.tid, [reason])
         self.show("abort", r, reason=reason)
@@ -237,7 +264,7 @@ def silent_user(c, r, event):
 def send_last_ack(c, r, state, exit_info):
     r.exit = exit_info
     r.state = state
-    c.sent = last_ack(r, 0)
+    c.sent = plain_ack(r, 0, r.exit)
     c.start(r, c.t.w)
 
 
@@ -279,6 +306,7 @@ def i_result_wait(c, r, event, p, given):
         if not r.held:
             c.show("confirm", r)
         c.show("result", r, (0,) + p.user)
+        c.take_identity(r, p, "ResultTaken" if r.held else "ResultConfirms")
         r.aec, r.state = 0, "IResultRespWait"
         return c.start(r, c.t.a)
     return no_row(c, r, event)
@@ -299,7 +327,7 @@ def i_result_resp_wait(c, r, event, p, given):
 def i_wait_timeout(c, r, event, p, given):
     if event in ("Result RID", "Result cut RID"):
         c.meet(r.state, event, "ResultSeenAgain", "exit information" if r.exit else "")
-        c.sent = last_ack(r, 1)
+        c.sent = plain_ack(r, 1, r.exit)
         return None
     if event == "timer":
         c.meet(r.state, event, "TimeoutEnds")
@@ -336,9 +364,9 @@ def send_result(c, r, event, octets):
 
 def hold_on(c, r, event, condition=""):
     c.meet(r.state, event, "HoldOnSent", condition)
-    c.sent = pdu(0x18, RESPONDER, r.tid)
     c.start_none(r, "HoldOnSent in " + r.state)
     r.hold_on_sent, r.state = 1, "RResultWait"
+    c.sent = plain_ack(r, 0, b"")
 
 
 def r_invoke_resp_wait(c, r, event, p, given):
@@ -371,7 +399,7 @@ def r_result_wait(c, r, event, p, given):
         return hold_on(c, r, event)
     if event == "Invoke RID":
         c.meet(r.state, event, "HoldOnRepeated" if r.hold_on_sent else "Ignored", "hold-on sent" if r.hold_on_sent else "hold-on not sent")
-        c.sent = pdu(0x19, RESPONDER, r.tid) if r.hold_on_sent else b""
+        c.sent = plain_ack(r, 1, b"") if r.hold_on_sent else b""
         return None
     return no_row(c, r, event)
 
@@ -396,7 +424,7 @@ def r_wait_timeout(c, r, event, p, given):
     if event in ("Invoke RID", "Tve RID"):
         # the second is the row of 9.6 that document 01's bullets don't name: docs/DECISIONS.md, 19
         c.meet(r.state, event, "InvokeSeenAgain" if event == "Invoke RID" else "TidokSeenAgain", "exit information" if r.exit else "")
-        c.sent = last_ack(r, 1)
+        c.sent = plain_ack(r, 1, r.exit)
         return None
     if event == "timer":
         c.meet(r.state, event, "TimeoutEnds")
@@ -481,6 +509,7 @@ def first_invoke(c, peer, p):
     r.peer, r.tid, r.up = peer, p.tid, up
     if valid and not tidnew:
         met("Valid%d" % cls, "f")
+        c.take_identity(r, p, "Valid%d" % cls)
         r.state, c.t.last[peer] = "RInvokeRespWait%d" % cls, p.tid
         c.show("invoke", r, (0, start, length), cls, up)
         c.start(r, c.t.a)
@@ -489,6 +518,7 @@ def first_invoke(c, peer, p):
         row = "Restarted%d" if tidnew else "ToVerify%d"
         met(row % cls, "g, none cached" if last < 0 else "g, d = 0" if last == p.tid else "g, d 1 to 16,383" if valid else "g, d over 16,383")
         c.t.last[peer] = -1 if tidnew else last
+        c.take_identity(r, p, row % cls)
         r.state = "RTidokWait%d" % cls
         c.keep(r, c.lent[start:start + length])
         c.start_none(r, row % cls)
@@ -504,6 +534,9 @@ def arrive(c, peer, s):
         return
     typ, top, tid = s[0] >> 3 & 15, s[1] >> 7, s[1] << 8 & 32512 | s[2]
     p = parse(s)
+    if p:
+        c.unknown = p.unknown
+        reached.add(("told", p.kind(), "unknown item" if p.unknown[0] else "none"))
     if (typ, top) in ((1, 1), (2, 0)):
         reached.add(("dispatch", "Invoke with top bit 1" if typ == 1 else "Result with top bit 0", "well formed" if p else "malformed"))
         met = any(c.t.named(role, peer, tid) for role in (INITIATOR, RESPONDER))
@@ -535,8 +568,9 @@ class End:
         self.records, self.octets, self.store, self.last = 1, bytearray(8464), bytearray(49 * CELL), b""
 
 
-NORMAL = [0, 0, 1100, 33, 32]
-CAPACITY = [HEADER + 49 * RECORD, 49 * CELL, 1200, 40, 40]
+ANSWER = 40
+NORMAL = [0, 0, 1100, ANSWER + 1, 32]
+CAPACITY = [HEADER + 49 * RECORD, 49 * CELL, 1200, 48, 40]
 ends = [End(), End()]
 lend = [None] * 5
 settings = []
@@ -559,7 +593,7 @@ def table_size_wrong(end):
 
 def sizes_wrong(end):
     n = (lent(end, 0) - HEADER) // RECORD
-    return table_size_wrong(end) or lent(end, 1) != CELL * n or lent(end, 2) < 1028 or lent(end, 3) < 32
+    return table_size_wrong(end) or lent(end, 1) != CELL * n or lent(end, 2) < 1028 or lent(end, 3) < ANSWER
 
 
 def changed_records(before, after):

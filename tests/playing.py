@@ -33,7 +33,8 @@ def answer_text(end, c, s=b"", name=""):
         text += "; tid %d" % c.tid
     if name in ("timer", "fire"):
         text += "; fired %s %d/%d" % (ROLES[c.fired[0]], c.fired[1], c.fired[2]) if c.fired else "; none due"
-    return text + "".join(shown_text(end, s, w) for w in c.shown)
+    text += "".join(shown_text(end, s, w) for w in c.shown)
+    return text + ("; unknown %d at %d" % c.unknown if c.unknown != (0, 0) else "")
 
 
 def look_text(end):
@@ -44,7 +45,7 @@ def look_text(end):
         if r.live():
             text += "; record %d %s %d/%d RCR %d AEC %d due %d%s length %d" % (k, r.state, r.peer, r.tid, r.rcr, r.aec, r.deadline, " limit %d" % r.limit if r.limit else "", r.length)
             text += "".join(" " + mark for mark, on in (("user-ack", r.up), ("HoldOn", r.held), ("TIDok-sent", r.tidok_sent), ("hold-on-sent", r.hold_on_sent), ("TIDnew", r.tidnew)) if on)
-            text += " exit " + text_of(r.exit) if r.exit else ""
+            text += (" unknown %d" % r.unknown if r.unknown else "") + (" exit " + text_of(r.exit) if r.exit else "")
     return text
 
 

@@ -890,6 +890,181 @@ def fired_until_free(e):
     return times
 
 
+# ---- 02, L4: unknown items
+
+IDENTITY = 624 + 24  # of the record at place 0, docs/TABLE.md
+
+
+def unknown_items():
+    title("02, L4: the reading's examples. Options and packet numbers are known; the Ack names the first item that isn't, before exit information, and so does its repeat")
+    as_read(2, 5)
+    rcv(G, 0, 7, "8E004011 9109 9A0102 7902 EE", has="; sent 1C8040; unknown 15 at 9"), look(G, has="RTidokWait1 7/64 RCR 0 AEC 0 due 0 length 1 user-ack unknown 15"), rcv(G, 1, 7, "1C0040", has="store 0+1 EE")
+    ans(G, 2, 1, 7, 64, "AABB", has="; sent 988040811F0AAABB"), rcv(G, 3, 7, "8F004011 30", has="; sent 998040811F0AAABB; unknown 6 at 4"), rcv(G, 4, 7, "1D0040", has="; sent 998040811F0AAABB")
+    look(G, has="RWaitTimeout 7/64 RCR 0 AEC 0 due 202 length 1 user-ack unknown 15 exit AABB")
+    title("the same by the timer, class 1; the hold-on of class 2 and its repeat carry it, the Result doesn't; an unknown item in the long form")
+    as_read(2, 5)
+    rcv(G, 0, 7, "8E004101 30", has="; sent 1C8041; unknown 6 at 4"), rcv(G, 0, 7, "1C0041"), tim(G, 100, has="InvokeAcked}; sent 9880410116")
+    rcv(G, 100, 7, "8E004202 7D00 EE", has="{Free Invoke Valid2}; invoke responder 7/66 class 2 datagram 6+1 EE; unknown 15 at 4"), tim(G, 200, has="HoldOnSent}; sent 988042011F")
+    rcv(G, 210, 7, "0F004202", has="HoldOnRepeated}; sent 998042011F"), res(G, 220, 1, 7, 66, "DD", has="; sent 168042DD")
+    title("the initiator: of a hold-on nothing is kept, of the Result that it takes the identity is; a later one changes nothing")
+    as_read(2, 5)
+    req(R, 0, 7, 2), rcv(R, 1, 7, "988005 30", has="HeldOn}; confirm initiator 7/5 no data; unknown 6 at 3"), look(R, has="due 0 length 0 HoldOn TIDnew")
+    rcv(R, 2, 7, "968005 8A0102 4B030405 DD", has="ResultTaken}; result initiator 7/5 datagram 10+1 DD; unknown 9 at 6"), rcv(R, 3, 7, "978005 50", has="Ignored}; unknown 10 at 3"), look(R, has="HoldOn TIDnew unknown 9")
+    ans(R, 4, 0, 7, 5, "AABBCCDD", has="; sent 98000581190C04AABBCCDD"), rcv(R, 5, 7, "178005", has="; sent 99000581190C04AABBCCDD")
+    title("what is ignored or answered with an Abort is told too: another direction, no record, no TIDve of ours, class 0; what is malformed isn't")
+    as_read(2, 5)
+    rcv(G, 0, 7, "8E900502 30", has="{Nobody}; unknown 6 at 4"), rcv(G, 0, 7, "980005 30", has="Ignored}; unknown 6 at 3"), rcv(G, 0, 7, "980005 3001"), assert_line("")
+    rcv(G, 0, 7, "9C9005 30", has="; sent 20100502; unknown 6 at 3"), rcv(G, 0, 7, "8E000500 30", has="; invoke responder 7/5 datagram 5+0; unknown 6 at 4"), look(G, has=": clock 0, next TID 5, TIDnew due")
+    identities()
+    unknown_and_told()
+    unknown_and_kept()
+    acks_with_an_error_item()
+    identities_made_up()
+
+
+def identities():
+    title("every identity, in the short and in the long form, in an Invoke that opens a record: 0 to 5 are known, 6 to 15 aren't, whatever they hold")
+    for long in (0, 4):
+        cached(6)
+        for k in range(16):
+            now, tid, known = 2000 * k, 7 + k, k < 6
+            item = bytes([8 * k + long + 3, 2, 0xAA, 0xBB] if long else [8 * k])
+            rcv(G, now, 5, "8E00%02X01" % tid, item, has="Valid1}; invoke responder 5/%d class 1 datagram %d+0" % (tid, 4 + len(item))), assert_told("" if known else "; unknown %d at 4" % k)
+            tim(G, now + 1000, has="; sent 1880%02X;" % tid if known else "; sent 9880%02X01%02X;" % (tid, 16 + k)), abo(G, now + 1000, 1, 5, tid, 0)
+
+
+def assert_told(end):
+    """The line before ends with this, and tells of no unknown item else."""
+    assert expected[-1].endswith(end) and ("; unknown" in expected[-1]) == bool(end), expected[-1]
+
+
+def unknown_and_told():
+    title("of several unknown items the first is told: after known ones, before them, between them; sixteen items that are all unknown")
+    for items, has in (("B0 38", "6 at 4"), ("B8 30", "7 at 4"), ("8901 90 B0 08", "6 at 7"), ("FC03AABBCC B0 0A1122", "15 at 4"), ("9C01AA 80 A8 B1CC 7F00", "6 at 9"), ("".join("%02X" % (128 + 8 * k) for k in range(15, 0, -1)) + "00", "15 at 4"),
+                       ("80 88 90 98 A0 A8 80 88 90 98 A0 A8 80 88 90 78", "15 at 19"), ("B0" * 15 + "30", "6 at 4"), ("FF00" * 15 + "7B010203", "15 at 4")):
+        cached(6)
+        rcv(G, 10, 5, "8E000701 " + items, has="Valid1}"), assert_told("; unknown " + has)
+        tim(G, 1010, has="; sent 98800701%02X" % (16 + int(has.split()[0])))
+    title("an unknown item that is cut, a seventeenth, and octets after an Ack's: malformed first, and nothing is told or kept")
+    for text, row in (("8E000701 79", "Malformed}; sent 20800701"), ("8E000701 7C", "Malformed}; sent 20800701"), ("8E000701 B0 7C02AA", "Malformed}; sent 20800701"), ("8E000701 B0", "Malformed}; sent 20800701"),
+                      ("8E000703 30", "Malformed}; sent 20800701"), ("8E000701" + "B0" * 16 + "30", "Malformed}; sent 20800701"), ("980007 30 00", "Ignored}"), ("B80007 02 30", "Ignored}"), ("A20007 01 30", "Ignored}"), ("C00007 30", "Ignored}"), ("98", "{Nobody}"), ("9800", "{Nobody}")):
+        pair()
+        rcv(G, 10, 5, text, has=row), assert_told(""), look(G, has=": clock 10, next TID 7")
+    for text in ("968007 7C02AA", "988007 30 00", "B88007 01", "A28007 01 30"):
+        pair()
+        req(R, 10, 5, 2), rcv(R, 20, 5, text, has="{IResultWait2 MalformedPdu Malformed}; sent 20000701; abort initiator 5/7 reason 1 no data"), assert_told("")
+    title("PDUs of every type without a record: each tells its first unknown item, and none leaves anything")
+    pair(records=1)
+    for text, at in (("980005 30", 3), ("998005 30", 3), ("9C0005 30", 3), ("9D8005 30", 3), ("A00005 08 30", 4), ("A18005 08 30", 4), ("968005 30", 3), ("978005 30 AA", 3), ("948005 30", 3), ("958005 30", 3), ("960005 30", 3), ("970005 30", 3), ("8E800501 30", 4), ("8F800502 30", 4),
+                     ("AE000501 30", 4), ("AE800501 30", 4), ("B6000501 30", 4), ("B6800501 30", 4), ("B8000500 30", 4), ("B8800502AABB 30", 6), ("B8000503AABBCC 88 30", 8), ("8E000500 30", 4)):
+        rcv(G, 10, 5, text), assert_told("; unknown 6 at %d" % at)
+    look(G, has=": clock 10, next TID 7, TIDnew due")
+    title("an Invoke that a test stops, or a full table, is told and not kept: version, TTR, length, no free record")
+    pair(records=1)
+    rcv(G, 10, 5, "8E000741 30", has="WrongVersion}; sent 20800706; unknown 6 at 4"), rcv(G, 10, 5, "8C000702 30", has="Unsupported}; sent 20800704; unknown 6 at 4"), rcv(G, 10, 5, "8E000702 38", [0] * 1025, has="TooLong}; sent 20800707; unknown 7 at 4")
+    rcv(G, 20, 5, "0E000701", has="; sent 1C8007"), rcv(G, 30, 5, "8E000801 30", has="{Free Invoke Ignored}; unknown 6 at 4"), rcv(G, 40, 5, "1C0007", has="Verified1}"), tim(G, 1040, has="; sent 188007;")
+    title("with a live record in every state: what has no row is told as well, and the record keeps what it had")
+    for state in STATES[1:]:
+        e, role = reach(state)
+        look(e)
+        for text, at in (("98t07 30", 3), ("99t07 38", 3)) * (state not in ("IResultWait1", "IResultWait2", "RResultRespWait")) + (("AEt0701 78", 4), ("B6t0701 B0 38", 4), ("B8t0700 30", 4), ("8E800701 30", 4), ("960007 30", 3)):
+            rcv(e, 400, 5, text.replace("t", "80" if role == 0 else "00"), has="Ignored}" if "t" in text else "{Nobody}")
+            assert "; unknown" in expected[-1] and "{0:" not in expected[-1]
+        look(e), assert_told("")
+    title("with every row that a received PDU has: told beside what is sent and shown")
+    pair()
+    req(R, 10, 5, 1), rcv(R, 20, 5, "9C8007 30", has="TidokSent}; sent 1C0007; unknown 6 at 3"), rcv(R, 30, 5, "9D8007 38", has="; sent 1D0007; unknown 7 at 3"), rcv(R, 40, 5, "988007 B0 0A1122", has="Confirmed}; confirm initiator 5/7 datagram 5+2 1122; unknown 6 at 3")
+    req(R, 50, 5, 2), rcv(R, 60, 5, "A08008 05 30", has="PeerAborts}; abort initiator 5/8 reason 5 no data; unknown 6 at 4"), req(R, 70, 5, 2), rcv(R, 80, 5, "948009 30", has="ResultUnsupported}; sent 20000904; abort initiator 5/9 reason 4 no data; unknown 6 at 3")
+    rcv(G, 10, 5, "0E000702"), rcv(G, 20, 5, "8F000702 30", has="TidveRepeated}; sent 1D8007; unknown 6 at 4"), rcv(G, 30, 5, "9C0007 38", has="Verified2}; invoke responder 5/7 class 2 store 0+0; unknown 7 at 3")
+    res(G, 40, 1, 5, 7, "DD", has="; sent 168007DD"), rcv(G, 50, 5, "980007 B0 09AA", has="Confirmed}; confirm responder 5/7 datagram 5+1 AA; unknown 6 at 3"), tim(G, 60, has="; none due")
+
+
+def unknown_and_kept():
+    title("the Invoke that opened the record counts, shown at once, verified or with TIDnew, and none after it; one that had none stays so")
+    for cls in (1, 2):
+        cached(6)
+        rcv(G, 10, 5, "8E00070%d 38" % cls, has="Valid%d}" % cls), rcv(G, 20, 5, "8F00070%d 30" % cls, has="Ignored}; unknown 6 at 4"), rcv(G, 20, 5, "8E00070%d 30" % cls, has="Ignored}; unknown 6 at 4"), tim(G, 1010, has="; sent 9880070117;")
+        for fourth, name in (("0%d" % cls, "ToVerify%d}" % cls), ("2%d" % cls, "Restarted%d}" % cls)):
+            pair()
+            rcv(G, 10, 5, "8E0007%s 38 EE" % fourth, has=name + "; sent 1C8007"), rcv(G, 20, 5, "8F0007%s 30" % fourth, has="; sent 1D8007; unknown 6 at 4"), rcv(G, 30, 5, "9C0007 30", has="Verified%d}; invoke responder 5/7 class %d store 0+1 EE" % (cls, cls)), tim(G, 1030, has="; sent 9880070117;")
+            pair()
+            rcv(G, 10, 5, "8E0007%s 10" % fourth, has=name), assert_told(""), rcv(G, 20, 5, "8F0007%s 30" % fourth, has="; sent 1D8007; unknown 6 at 4"), rcv(G, 30, 5, "9C0007 30"), look(G, has="length 0"), tim(G, 1030, has="; sent 188007;")
+    title("the Result that is taken counts, held on or not, and none before or after it; one that has none leaves none")
+    for hold_on, row in ((["988007 30"], "ResultTaken}; result"), ([], "ResultConfirms}; confirm initiator 5/7 no data; result")):
+        for text, has, sent in (("968007 38", "; unknown 7 at 3", "9800070117"), ("978007 78 AA", "; unknown 15 at 3", "980007011F"), ("968007 8A1122 28", "", "180007"), ("168007 30", "", "180007")):
+            pair()
+            req(R, 10, 5, 2)
+            for ack in hold_on:
+                rcv(R, 20, 5, ack, has="HeldOn}")
+            rcv(R, 30, 5, text, has=row), assert_told(has), rcv(R, 40, 5, "968007 30", has="Ignored}; unknown 6 at 3"), tim(R, 1030, has="ResultAcked}; sent %s;" % sent)
+    title("a record is freed with its identity: the next one at its place has none")
+    cached(6)
+    rcv(G, 10, 5, "8E000701 30", has="Valid1}"), abo(G, 20, 1, 5, 7, 0), rcv(G, 30, 5, "0E000801", has="Valid1}"), tim(G, 1030, has="; sent 188008;")
+
+
+def acks_with_an_error_item():
+    title("exit information of 0 to 4 and 128 bytes after the Error item, from either end, and the same again; the longest Ack has 135 octets")
+    for n, items in ((0, "0116"), (1, "811609"), (2, "81160A"), (3, "81160B"), (4, "81160C04"), (128, "81160C80")):
+        exit_info = octets([0x61] * n).hex()
+        cached(6)
+        rcv(G, 10, 5, "8E000711 30"), ans(G, 20, 1, 5, 7, exit_info, has="InvokeAnswered}; sent 988007" + items), assert_longest(n)
+        rcv(G, 30, 5, "0F000711", has="InvokeSeenAgain}; sent 998007" + items), rcv(G, 40, 5, "1D0007", has="TidokSeenAgain}; sent 998007" + items), look(G, has="user-ack unknown 6" + " exit 61" * bool(n))
+        pair()
+        req(R, 10, 5, 2, 1), rcv(R, 20, 5, "968007 30"), ans(R, 30, 0, 5, 7, exit_info, has="ResultAnswered}; sent 980007" + items), assert_longest(n), rcv(R, 40, 5, "178007", has="ResultSeenAgain}; sent 990007" + items), rcv(R, 50, 5, "158007", has="; sent 990007" + items)
+    title("the other end reads it: the confirmation's data is still the first Info item, and an Error item is known")
+    pair()
+    put(R, 97, 0), put(G, 112 + 10, 7), req(R, 10, 5, 1, has="; sent 0E000701")
+    rcv(G, 20, 5, "8E000701 30", has="Valid1}"), ans(G, 30, 1, 5, 7, "AABB", has="; sent 98800781160AAABB"), get(R, 40, 5, has="Confirmed}; confirm initiator 5/7 datagram 6+2 AABB"), assert_told("")
+    req(R, 50, 5, 2, has="; tid 8"), rcv(G, 50, 5, "8E000802 78", has="Valid2}"), tim(G, 1050, has="HoldOnSent}; sent 988008011F"), get(R, 1060, 5, has="HeldOn}; confirm initiator 5/8 no data"), assert_told("")
+    res(G, 1070, 1, 5, 8, "DD", has="; sent 168008DD"), rcv(R, 1080, 5, "968008 B0 38 DD", has="ResultTaken}"), ans(R, 1090, 0, 5, 8, "EE", has="; sent 980008811609EE"), get(G, 1100, 5, has="Confirmed}; confirm responder 5/8 datagram 6+1 EE"), assert_told("")
+    title("hold-on by either row, with U/P or without, repeated and then overtaken by the Result; without a hold-on it is never sent")
+    cached(6)
+    rcv(G, 10, 5, "8E000712 30"), ans(G, 20, 1, 5, 7, has="UserWorks}"), rcv(G, 30, 5, "0F000712", has="Ignored}"), tim(G, 1020, has="{RResultWait Timer HoldOnSent}; sent 9880070116"), rcv(G, 1030, 5, "0F000712", has="HoldOnRepeated}; sent 9980070116"), rcv(G, 1040, 5, "8F000712 38", has="; sent 9980070116; unknown 7 at 4")
+    res(G, 1050, 1, 5, 7, "DD", has="; sent 168007DD"), tim(G, 4050, has="; sent 178007DD"), look(G, has="unknown 6"), rcv(G, 4060, 5, "180007", has="Confirmed}")
+    cached(6)
+    rcv(G, 10, 5, "8E000702 30"), res(G, 20, 1, 5, 7, "DD", has="; sent 168007DD"), tim(G, 3020, has="; sent 178007DD")
+    title("with the waiting limit on: hold-on with the Error item, again, and the Abort at the limit's end without it")
+    pair(**LIMIT)
+    rcv(G, 0, 5, "8E000702 30", has="; sent 1C8007; unknown 6 at 4"), rcv(G, 10, 5, "1C0007"), tim(G, 1010, has="; sent 9880070116"), rcv(G, 1020, 5, "0F000702", has="; sent 9980070116"), tim(G, 6010, has="ResultWaitEnds}; sent 20800708;")
+
+
+def assert_longest(exit_length):
+    """With 128 octets of exit information the Ack sent last has 135 octets."""
+    assert exit_length < 128 or len(ends[int(lines[-1].split()[1])].last) == 135
+
+
+def identities_made_up():
+    title("a made-up table: an identity in any state; only plain Acks carry it, and a Result without an unknown item takes it away")
+    for state, sends in (("IResultWait1", [("t", 2100, "0F000721AABB")]), ("IResultWait2", [("1C8007", 400, "1C0007"), ("t", 3600, "1D0007")]), ("IResultRespWait", [("t", 1200, "98000701%02X")]), ("IWaitTimeout", [("178007", 400, "99000701%02X")]),
+                         ("RTidokWait1", [("0F000701", 400, "1D8007"), ("1C0007", 500, ""), ("t", 1500, "98800701%02X")]), ("RTidokWait2", [("0F000702", 400, "1D8007"), ("1C0007", 500, ""), ("t", 1500, "98800701%02X")]),
+                         ("RInvokeRespWait1", [("t", 1200, "98800701%02X"), ("0F000701", 1300, "99800701%02X")]), ("RInvokeRespWait2", [("t", 1200, "98800701%02X"), ("0F000702", 1300, "99800701%02X")]), ("RResultWait", [("t", 1300, "98800701%02X"), ("0F000702", 1400, "99800701%02X")]),
+                         ("RResultRespWait", [("t", 3300, "178007DDEE")]), ("RWaitTimeout", [("0F000701", 400, "99800701%02X"), ("1D0007", 500, "99800701%02X")])):
+        for identity in (6, 15):
+            e, role = reach(state)
+            put(e, IDENTITY, identity), look(e, has=" unknown %d" % identity)
+            for event, time, sent in sends:
+                has = "; sent " + (sent % (16 + identity) if "%" in sent else sent) if sent else "Verified"
+                tim(e, time, has=has) if event == "t" else rcv(e, time, 5, event, has=has)
+            look(e, has=" unknown %d" % identity)
+            rcv(e, 5000, 5, "20%s07 01" % ("80" if role == 0 else "00"), has="PeerAborts}; abort"), look(e), assert_told("")
+    for hold_on in (0, 2):
+        e, role = reach("IResultWait2")
+        put(e, IDENTITY, 9), put(e, 630, hold_on), rcv(e, 400, 5, "168007 30", has="ResultTaken}" if hold_on else "ResultConfirms}"), look(e, has="due 1400 length 2"), assert_told(""), tim(e, 1400, has="; sent 180007;")
+    title("a made-up table: exit information in a record that sends a hold-on stays unsent, with the Error item and without it")
+    for identity, sent in ((0, "; sent 188007"), (6, "; sent 9880070116")):
+        e, role = reach("RInvokeRespWait2")
+        put(e, 631, 2), put(e, IDENTITY, identity), tim(e, 1200, has="HoldOnSent}" + sent), rcv(e, 1300, 5, "0F000702", has="HoldOnRepeated}; sent " + ("9980070116" if identity else "198007"))
+    title("number 1: an identity that is known or over 15, in every state; 6 to 15 are good, also where no row has put them")
+    for state in STATES[1:]:
+        e, role = reach(state)
+        for identity in (0, 1, 5, 6, 15, 16, 128, 255):
+            put(e, IDENTITY, identity), tim(e, 400, has="; none due" if identity in (0, 6, 15) else "refused 1"), due(e, has=": ok" if identity in (0, 6, 15) else "refused 1")
+        put(e, IDENTITY, 0), put(e, IDENTITY - 1, 6), tim(e, 400, has="refused 1"), put(e, IDENTITY - 1, 0), put(e, IDENTITY + 1, 6), tim(e, 400, has="refused 1")
+    title("a free record with an identity isn't zero: number 1")
+    pair()
+    put(R, IDENTITY, 6), every_call("refused 1"), due(R, has="refused 1"), put(R, IDENTITY, 0), tim(R, 10, has="; none due")
+
+
 def refusals():
     title("the fresh-table call: size, then settings and the first TID; 48 records at the most")
     size(0, ": 0"), size(1, ": 800"), size(48, ": 9072"), size(49, ": 0"), size(2 ** 64 - 1, ": 0")
@@ -913,17 +1088,17 @@ def refusals():
     title("number 1 of the engine's calls: store, output, answer or table of the wrong size, whatever else is wrong")
     pair(records=2)
     req(R, 10, 5, 1)
-    for sizes in ((975, 2048, 1100, 33, 32), (977, 2048, 1100, 33, 32), (800, 2048, 1100, 33, 32), (624, 0, 1100, 33, 32), (0, 0, 1100, 33, 32), (976, 2047, 1100, 33, 32), (976, 2049, 1100, 33, 32), (976, 1024, 1100, 33, 32),
-                  (976, 2048, 1027, 33, 32), (976, 2048, 0, 33, 32), (976, 2048, 1100, 31, 32), (976, 2048, 1100, 0, 32), (9248, 50176, 1100, 33, 32)):
+    for sizes in ((975, 2048, 1100, 41, 32), (977, 2048, 1100, 41, 32), (800, 2048, 1100, 41, 32), (624, 0, 1100, 41, 32), (0, 0, 1100, 41, 32), (976, 2047, 1100, 41, 32), (976, 2049, 1100, 41, 32), (976, 1024, 1100, 41, 32),
+                  (976, 2048, 1027, 41, 32), (976, 2048, 0, 41, 32), (976, 2048, 1100, 39, 32), (976, 2048, 1100, 32, 32), (976, 2048, 1100, 0, 32), (9248, 50176, 1100, 41, 32)):
         lends(*sizes)
         every_call("refused 1")
-    lends(976, 2048, 1028, 32, 32)
+    lends(976, 2048, 1028, 40, 32)
     rcv(R, 20, 5, "188007", has="Confirmed}")
     lends()
     title("number 1: a damaged table, one field after the other, each mended again; the time is wrong as well")
     pair(records=2, _0=4, _1=2)
     tim(R, 50), req(R, 60, 5, 1), req(R, 70, 5, 2)
-    for at, value in ((7, 1), (9, 128), (10, 9), (11, 9), (15, 255), (23, 255), (92, 1), (95, 5), (96, 1), (96, 2), (97, 2), (98, 1), (111, 1), (113, 129), (624, 12), (624, 0), (627, 128), (628, 5), (629, 3), (630, 32), (631, 129), (639, 1), (641, 255), (647, 255), (648, 1), (671, 255)):
+    for at, value in ((7, 1), (9, 128), (10, 9), (11, 9), (15, 255), (23, 255), (92, 1), (95, 5), (96, 1), (96, 2), (97, 2), (98, 1), (111, 1), (113, 129), (624, 12), (624, 0), (627, 128), (628, 5), (629, 3), (630, 32), (631, 129), (639, 1), (641, 255), (647, 255), (648, 1), (664, 1), (665, 1), (665, 5), (665, 16), (665, 255), (666, 1), (671, 255)):
         was = ends[R].octets[at]
         put(R, at, value), tim(R, 49, has="refused 1"), put(R, at, was)
     put(R, 10, 9), req(R, 0, 256, 3, 0, "00" * 1025, has="refused 1"), put(R, 10, 4)
@@ -1077,6 +1252,13 @@ def needed():
     without_timer = ["HeldOn", "HoldOnSent in RInvokeRespWait2", "HoldOnSent in RResultWait", "ToVerify1", "ToVerify2", "Restarted1", "Restarted2"]
     yield from (("no timer", row, mode) for row in without_timer for mode in ("limit", "no limit"))
     yield from (("limit in force", state, then) for state in ("RTidokWait1", "RTidokWait2", "IResultWait2", "RResultWait") for then in ("stays", "a timer again", "freed"))
+    kinds = ["Invoke", "Invoke RID", "Result", "Result RID", "Result cut", "Result cut RID", "Ack", "Ack RID", "Tve", "Tve RID", "Abort", "Segmented Invoke", "Segmented Result", "Nack"]
+    yield from (("told", kind, item) for kind in kinds for item in ("unknown item", "none"))
+    openers = ["Valid1", "Valid2", "ToVerify1", "ToVerify2", "Restarted1", "Restarted2"]
+    yield from (("identity", row, item) for row in openers + ["ResultTaken", "ResultConfirms"] for item in ("unknown item", "none"))
+    yield from (("identity", row, "none, and one before") for row in ("ResultTaken", "ResultConfirms"))
+    forms = [(state, form) for state in ("IWaitTimeout", "RWaitTimeout") for form in ("no exit", "short exit", "long exit")] + [("RResultWait", "no exit")]
+    yield from ((ack, state, form + item) for ack in ("Ack", "Ack again") for state, form in forms for item in ("", ", unknown item"))
     yield from (("timer", "fired", c) for c in ("alone", "later ones due", "a tie"))
     yield ("timer", "none due", "")
     yield from (("fire", "fired", c) for c in ("the earliest", "a later one"))
@@ -1115,6 +1297,7 @@ acting_rows()
 timers()
 timer_in_two()
 waiting_limit()
+unknown_items()
 refusals()
 mixups()
 missed = [key for key in needed() if key not in reached]

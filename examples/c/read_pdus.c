@@ -1,4 +1,4 @@
-/* Reads the bench cases of document 01 through the proved library and says what each is. */
+/* Reads the bench cases of document 01, and an unknown item, through the proved library and says what each is. */
 #include <stdio.h>
 #include <string.h>
 
@@ -30,6 +30,8 @@ static void show_pdu(const uint8_t *pdu, size_t length)
             printf(", item %u: ", (unsigned)item[0]);
             show_octets(pdu + item[2], item[3]);
         }
+        if (fields[WTP_UNKNOWN_IDENTITY])
+            printf(", the item at octet %u isn't known", (unsigned)fields[WTP_UNKNOWN_PLACE]);
         printf("\n");
     }
 }
@@ -59,6 +61,7 @@ int main(void)
         {4, {0x0E, 0x00, 0x05, 0x22}}, {4, {0x0F, 0x00, 0x05, 0x22}}, {4, {0x0E, 0x00, 0x05, 0x02}}, {3, {0x16, 0x80, 0x05}}, {3, {0x1C, 0x80, 0x05}},
         {4, {0x20, 0x00, 0x05, 0x02}}, {6, {0x98, 0x00, 0x05, 0x0A, 0xAA, 0xBB}}, {1, {0x00}}, {3, {0x0E, 0x00, 0x05}},
         {4, {0x0E, 0x00, 0x05, 0x03}}, {4, {0x18, 0x80, 0x05, 0x00}},
+        {5, {0x8E, 0x00, 0x41, 0x01, 0x30}}, {5, {0x98, 0x80, 0x41, 0x01, 0x16}}, /* an unknown item, and the Ack that names it */
     };
     static const uint8_t two[] = {0x00, 0x03, 0x18, 0x80, 0x05, 0x04, 0x20, 0x80, 0x06, 0x08};
     static const uint8_t none[] = {0x00, 0x00};

@@ -17,6 +17,14 @@ tshark -r "$work/sent.pcapng" -d udp.port==9201,wtp --disable-protocol wsp -T pd
 python3 tests/interop/tshark_fields.py "$pdus" "$work/sent.pdml" | tee "$work/fields.log" | sed '$d'
 count_from "$work/fields.log"
 
+error_items() {
+    local ack
+    for ack in "last Ack of the initiator, exit information 128" "last Ack of the responder, exit information 0" "hold-on Ack"; do
+        grep -q "^ok: $ack, Error item for identity 15: " "$work/fields.log" || return 1
+    done
+}
+check "tshark reads last Acks and hold-on Acks with an Error item" error_items
+
 # wtpdump on the PDUs as hex is what every capture of them must give, but for time, ends and the count.
 lines() {
     sed -E '/^datagrams: /d; s/^#[0-9]+( [^ ]+ [^ ]+ > [^ ]+)?: //'

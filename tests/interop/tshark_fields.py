@@ -8,7 +8,9 @@ Where tshark speaks otherwise than section 8, though its values are the same:
 - GTR and TTR are one field of two bits, trailer_flags, and 3 is called "Re-assembly not supported" (true to 8.2.2).
 - The title of an Abort of a user says "Type: User (0)"; the field abort.type has 1, and that is compared.
 - RID of an Abort isn't a field there either, and the reserved bit of an Ack isn't shown.
-- An item's data is shown without a value: its length is compared, and its octets as those of the whole item.
+- An Info item's data is shown without a value: its length is compared, and its octets as those of the whole item.
+- Of an Error item (request L4) nothing is shown but its identity: its octets, error code and identity among them, are compared as
+  those of the whole item.
 - The title of a joined datagram counts one PDU too many; the sizes and fields of the PDUs in it are right.
 - A length of two octets in a joined datagram is shown with its leading 1 (32,768 too much), which is taken off here.
 - User data of a WTP PDU is taken for WSP. With that dissector switched off it is plain data; empty data is no field.

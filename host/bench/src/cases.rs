@@ -56,13 +56,15 @@ const CODEC: [&str; 8] = [
 ];
 
 /// The engine's cases, each for every count of records.
-const ENGINE: [&str; 11] = [
+const ENGINE: [&str; 13] = [
     "request",
     "request refused",
     "receive an Invoke",
+    "receive an unknown item",
     "receive an Ack",
     "receive a Result",
     "answer",
+    "answer, unknown item",
     "result",
     "timer, none due",
     "timer that fires",
@@ -164,9 +166,11 @@ fn engine(name: &str, records: u8) -> Result<(Buffers, Call), String> {
         "request" => (start::initiators(size, last)?, request),
         "request refused" => (start::initiators(size, records)?, request),
         "receive an Invoke" => (start::responders(size, last)?, receive(pdus::invoke(records))),
+        "receive an unknown item" => (start::responders(size, last)?, receive(pdus::invoke_with_unknown_item(records))),
         "receive an Ack" => (start::initiators(size, records)?, receive(pdus::ack(last))),
         "receive a Result" => (start::initiators(size, records)?, receive(pdus::result(last))),
-        "answer" => (start::last_has_its_result(records)?, answer),
+        "answer" => (start::last_has_its_result(records, &pdus::result(last))?, answer),
+        "answer, unknown item" => (start::last_has_its_result(records, &pdus::result_with_unknown_item(last))?, answer),
         "result" => (start::responders(size, records)?, result),
         "timer, none due" => (start::initiators(size, records)?, Call::Timer { now: NOW }),
         "timer that fires" => (start::last_due_first(records)?, Call::Timer { now: DUE }),
@@ -192,9 +196,9 @@ mod tests {
             let last = u64::from(case.records.unwrap()) - 1;
             let expected = match case.name {
                 "request" => (true, 0, last, 0),
-                "receive an Invoke" | "receive an Ack" => (false, 1, 0, 0),
+                "receive an Invoke" | "receive an unknown item" | "receive an Ack" => (false, 1, 0, 0),
                 "receive a Result" => (false, 2, 0, 0),
-                "answer" | "result" => (true, 0, 0, 0),
+                "answer" | "answer, unknown item" | "result" => (true, 0, 0, 0),
                 "timer, none due" => (false, 0, 0, 0),
                 "timer that fires" | "fire a record" => (true, 0, 0, 1),
                 // A refusal, and a call without an answer, leave the answer of the request before it.

@@ -18,6 +18,19 @@ pub fn result(tid: u8) -> Vec<u8> {
     [&[0x16, 0x80, tid], &data()[..]].concat()
 }
 
+/// An unknown item, of identity 6 and without data.
+const UNKNOWN: u8 = 0x30;
+
+/// An Invoke whose record's Acks name an unknown item.
+pub fn invoke_with_unknown_item(tid: u8) -> Vec<u8> {
+    [&[0x8E, 0x00, tid, 0x02, UNKNOWN], &data()[..]].concat()
+}
+
+/// A Result whose Ack names an unknown item.
+pub fn result_with_unknown_item(tid: u8) -> Vec<u8> {
+    [&[0x96, 0x80, tid, UNKNOWN], &data()[..]].concat()
+}
+
 /// An Ack of the responder.
 pub fn ack(tid: u8) -> Vec<u8> {
     vec![0x18, 0x80, tid]

@@ -63,10 +63,10 @@ pub fn last_due_first(records: u8) -> Result<Buffers, String> {
     Ok(lent)
 }
 
-/// A full table of initiator records of which the last has shown its result.
-pub fn last_has_its_result(records: u8) -> Result<Buffers, String> {
+/// A full table of initiator records of which the last has shown its result, which this PDU brought.
+pub fn last_has_its_result(records: u8, result: &[u8]) -> Result<Buffers, String> {
     let mut lent = initiators(records.into(), records)?;
-    receive(&mut lent, &pdus::result(records - 1))?;
+    receive(&mut lent, result)?;
     Ok(lent)
 }
 

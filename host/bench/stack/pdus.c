@@ -3,7 +3,7 @@
 #include "pdus.h"
 
 #define CON 0x80
-#define OTHER_SHORT 0x28 /* identity 5, no data */
+#define UNKNOWN_SHORT 0x30 /* identity 6, no data */
 #define INFO_LONG 0x0C
 
 static struct octets pdu;
@@ -45,7 +45,7 @@ struct octets *empty_items(unsigned count, int on)
 {
     pdu.at[0] |= CON;
     for (unsigned k = 1; k <= count; k++)
-        octet(k < count || on ? CON | OTHER_SHORT : OTHER_SHORT);
+        octet(k < count || on ? CON | UNKNOWN_SHORT : UNKNOWN_SHORT);
     return &pdu;
 }
 

@@ -21,7 +21,7 @@ struct octets *invoke(uint8_t first, unsigned tid, uint8_t fourth);
 struct octets *octet(uint8_t value);
 struct octets *octets_of(size_t count);
 
-/* Items after the header: short, empty and not Info; the last of them has CON only where `on` isn't 0. */
+/* Items after the header: short, empty and unknown; the last of them has CON only where `on` isn't 0. */
 struct octets *empty_items(unsigned count, int on);
 
 /* One more item, the last: an Info item in the long form that says this length, and so many octets of it. */

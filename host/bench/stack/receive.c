@@ -1,4 +1,4 @@
-/* Rows of the received PDU. */
+/* Rows of the received PDU; all items but Info items are unknown. */
 #include "pdus.h"
 #include "rows.h"
 #include "tables.h"
@@ -65,6 +65,17 @@ static void repeated_invokes(void)
     answer(NOW, WTP_RESPONDER, RECORDS, octets_of(WTP_EXIT));
     made();
     taken("Invoke again, answered with 128 octets of exit information: Ack again", invoke(INVOKE_AGAIN, RECORDS, 1));
+    unknown_in_the_last_invoke(2);
+    timer(NOW + INTERVAL);
+    for (unsigned k = 0; k < RECORDS; k++)
+        made();
+    receive(NOW + INTERVAL, PEER, invoke(INVOKE_AGAIN, RECORDS, 2));
+    row("Invoke again while held on: hold-on with an Error item again", WTP_OK);
+    unknown_in_the_last_invoke(1);
+    nothing();
+    answer(NOW, WTP_RESPONDER, RECORDS, octets_of(WTP_EXIT));
+    made();
+    taken("Invoke again, answered with 128 octets of exit information: Ack with an Error item again", invoke(INVOKE_AGAIN, RECORDS, 1));
 }
 
 static void results_taken(void)
@@ -79,7 +90,7 @@ static void results_taken(void)
     nothing();
     answer(NOW, WTP_INITIATOR, LAST, octets_of(WTP_EXIT));
     made();
-    taken("Result again, answered with 128 octets of exit information: Ack again", header(RESULT_AGAIN, TO_INITIATOR | LAST));
+    taken("Result again, answered with 128 octets of exit information: Ack with an Error item again", header(RESULT_AGAIN, TO_INITIATOR | LAST));
     initiators(RECORDS, RECORDS, 2, 0);
     header(RESULT, TO_INITIATOR | LAST);
     taken("Result with 17 items (D4): Abort 1 and an abort shown", empty_items(17, 0));

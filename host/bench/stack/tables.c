@@ -62,6 +62,20 @@ void result_shown(size_t records, uint64_t user_ack)
     received(header(RESULT, TO_INITIATOR | (unsigned)(records - 1)));
 }
 
+void unknown_in_the_last_result(void)
+{
+    initiators(RECORDS, RECORDS, 2, 0);
+    header(RESULT, TO_INITIATOR | (RECORDS - 1));
+    received(empty_items(16, 0));
+}
+
+void unknown_in_the_last_invoke(uint8_t fourth)
+{
+    responders(RECORDS, RECORDS - 1, fourth);
+    invoke(INVOKE, RECORDS, fourth);
+    received(empty_items(16, 0));
+}
+
 void damaged(void)
 {
     initiators(RECORDS, RECORDS, 2, 0);

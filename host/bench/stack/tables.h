@@ -22,6 +22,12 @@ void verifying(size_t records, uint8_t fourth);
 /* The last of a table's initiator records of class 2 has shown its result. */
 void result_shown(size_t records, uint64_t user_ack);
 
+/* A full table of 48 initiator records of class 2, the last of which has shown a result whose 16 items are unknown. */
+void unknown_in_the_last_result(void);
+
+/* A full table of 48 responder records whose Invoke was shown; 16 items of the last one's are unknown. */
+void unknown_in_the_last_invoke(uint8_t fourth);
+
 /* A table of 48 records that isn't well formed: the last spare octet of the last record isn't zero. */
 void damaged(void);
 

@@ -53,6 +53,12 @@ static void no_answer(void)
     responders(RECORDS, RECORDS, 2);
     fired(DUE, LAST);
     fires("hold-on, the last of 48 records", DUE);
+    unknown_in_the_last_invoke(2);
+    fired(DUE, LAST);
+    fires("hold-on with an Error item, the last of 48 records", DUE);
+    unknown_in_the_last_result();
+    fired(DUE, LAST);
+    fires("Ack with an Error item instead of the user, the last of 48 records", DUE);
     result_shown(1, 1);
     fires("waits once more for the user", DUE);
     fires("Abort 8 and an abort shown: the user is silent", DUE + INTERVAL);

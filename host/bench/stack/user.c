@@ -46,6 +46,12 @@ static void answers(void)
     responders(RECORDS, RECORDS, 1);
     answer(NOW, WTP_RESPONDER, RECORDS, data(WTP_EXIT));
     row("to an Invoke of class 1, 128 octets of exit information, the last of 48 records", WTP_OK);
+    unknown_in_the_last_result();
+    answer(NOW, WTP_INITIATOR, LAST, data(WTP_EXIT));
+    row("to a Result with 16 unknown items, 128 octets of exit information: Ack with an Error item, the last of 48 records", WTP_OK);
+    unknown_in_the_last_invoke(1);
+    answer(NOW, WTP_RESPONDER, RECORDS, data(WTP_EXIT));
+    row("to an Invoke of class 1 with 16 unknown items, 128 octets of exit information: Ack with an Error item, the last of 48 records", WTP_OK);
     responders(RECORDS, RECORDS, 2);
     answer(NOW, WTP_RESPONDER, RECORDS, data(0));
     row("to an Invoke of class 2, the last of 48 records", WTP_OK);
@@ -60,7 +66,7 @@ static void answers(void)
     row("refused, 9: nothing to answer", WTP_NOT_ALLOWED);
     lent.answer_len = WTP_ANSWER - 1;
     answer(NOW, WTP_INITIATOR, LAST, data(WTP_EXIT));
-    row("refused, 1: 31 words", WTP_WRONG_SIZE);
+    row("refused, 1: 39 words", WTP_WRONG_SIZE);
 }
 
 static void results(void)

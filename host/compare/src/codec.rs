@@ -7,9 +7,22 @@ use wtp::ffi::FIELDS;
 
 /// Where the words of the items begin.
 const ITEM: u64 = 24;
-/// Place and value of a word at the edge of its range, whatever the type: type, TID, items, spare words, the first item's words.
-const EDGES: [(usize, u64); 10] =
-    [(0, 8), (4, 65_536), (15, 16), (15, 17), (15, 17), (18, 1), (24, 16), (25, 2), (27, 4), (27, 256)];
+/// Place and value of a word at the edge of its range, whatever the type: type, TID, items, the words of an unknown item, which may have
+/// any value, spare words, the first item's words.
+const EDGES: [(usize, u64); 12] = [
+    (0, 8),
+    (4, 65_536),
+    (15, 16),
+    (15, 17),
+    (15, 17),
+    (18, u64::MAX),
+    (19, u64::MAX),
+    (20, 1),
+    (24, 16),
+    (25, 2),
+    (27, 4),
+    (27, 256),
+];
 /// The same for an Invoke, for an Abort, for a Nack, and for each type that has no user data.
 const INVOKE_EDGES: [(usize, u64); 4] = [(5, 4), (8, 3), (8, 3), (8, 4)];
 const ABORT_EDGES: [(usize, u64); 4] = [(10, 2), (10, 7), (10, 8), (11, 256)];
@@ -76,7 +89,7 @@ fn edge(random: &mut Random, words: &[u64]) -> (usize, u64) {
 fn changed_place(random: &mut Random, words: &[u64]) -> usize {
     let items = words.get(15).copied().unwrap_or(0).min(16);
     let at = match random.below(10) {
-        0..=4 => random.below(19),
+        0..=4 => random.below(ITEM),
         5..=8 => ITEM + random.below(4 * items + 4),
         _ => random.below(FIELDS as u64),
     };
@@ -96,6 +109,7 @@ fn new_value(random: &mut Random, octets: u64) -> u64 {
 #[cfg(test)]
 mod tests {
     use super::*;
+    use wtp::ffi::ANSWER;
 
     #[test]
     fn changed_fields_reach_every_outcome_of_the_writer() {
@@ -107,7 +121,7 @@ mod tests {
             draw_read(&mut random, &mut call);
             if wtp::ffi::read(&call.octets, &mut fields) == 0 {
                 draw_write(&mut random, &fields, &mut call);
-                let number = wtp::ffi::write(&call.words, &call.octets, &mut [0; 1500], &mut [0; 32]);
+                let number = wtp::ffi::write(&call.words, &call.octets, &mut [0; 1500], &mut [0; ANSWER]);
                 missing.retain(|wanted| *wanted != number);
             }
             if missing.is_empty() {

@@ -4,7 +4,7 @@ use kit::layout::{self, Field, LONGEST};
 use kit::Random;
 
 /// The fields of a record; what RCR and AEC may be is what the settings say.
-const OF_RECORD: [Field; 10] = [
+const OF_RECORD: [Field; 11] = [
     layout::STATE,
     layout::PEER,
     layout::TID,
@@ -15,6 +15,7 @@ const OF_RECORD: [Field; 10] = [
     layout::DEADLINE,
     layout::MESSAGE,
     layout::LIMIT,
+    layout::UNKNOWN,
 ];
 
 /// Changes the table of so many records in one of several ways; it may still be well formed then.
@@ -115,7 +116,7 @@ fn free_with_one_octet(random: &mut Random, table: &mut [u8], place: usize) {
 /// Puts a live record whose fields are in range there, whether or not the engine would ever leave it so.
 fn put_odd_record(random: &mut Random, table: &mut [u8], place: usize) {
     let clock = layout::CLOCK.get(table);
-    let exit = layout::table_bytes(place) + layout::EXIT;
+    let start = layout::table_bytes(place);
     let state = 1 + random.below(layout::STATES);
     let flags = if state <= layout::INITIATOR_STATES { layout::FLAGS.most } else { layout::RESPONDER_FLAGS };
     let values = [
@@ -129,10 +130,11 @@ fn put_odd_record(random: &mut Random, table: &mut [u8], place: usize) {
         odd_deadline(random, clock),
         random.of(&[0, 1, 7, 1023, 1024]),
         random.of(&[0, 0, 1, 9, LONGEST]),
+        random.of(&[0, 0, layout::UNKNOWN.least, 9, layout::UNKNOWN.most]),
     ];
+    table[start..start + layout::EXIT].fill(0);
     OF_RECORD.iter().zip(values).for_each(|(field, value)| field.of_record(place).set(table, value));
-    table[layout::table_bytes(place) + layout::RECORD_SPARE..exit].fill(0);
-    random.fill(&mut table[exit..exit + 128]);
+    random.fill(&mut table[start + layout::EXIT..start + layout::RECORD]);
 }
 
 /// None, past, near or as far as may be.
@@ -147,17 +149,18 @@ fn odd_deadline(random: &mut Random, clock: u64) -> u64 {
 #[cfg(test)]
 mod tests {
     use super::*;
+    use wtp::ffi;
 
     /// The number of a timer call after the damage.
     fn number(random: &mut Random, change: fn(&mut Random, &mut [u8])) -> u64 {
         let mut table = vec![0; layout::table_bytes(3)];
         let mut settings = [0; 32];
         settings[2..22].fill(9);
-        assert_eq!(wtp::ffi::fresh(&mut table, &settings, 0), 0);
+        assert_eq!(ffi::fresh(&mut table, &settings, 0), 0);
         change(random, &mut table);
-        let (mut store, mut out, mut answer) = (vec![0; 3 * 1024], [0; 1028], [0; 32]);
-        let lent = wtp::ffi::Lent { table: &mut table, store: &mut store, out: &mut out, answer: &mut answer };
-        wtp::ffi::timer(lent, layout::LAST_TIME)
+        let (mut store, mut out, mut answer) = (vec![0; 3 * 1024], [0; 1028], [0; ffi::ANSWER]);
+        let lent = ffi::Lent { table: &mut table, store: &mut store, out: &mut out, answer: &mut answer };
+        ffi::timer(lent, layout::LAST_TIME)
     }
 
     #[test]

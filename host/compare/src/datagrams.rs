@@ -128,7 +128,7 @@ mod tests {
     fn datagrams_of_just_the_longest_length_are_joined() {
         let mut random = Random::new(1);
         let mut call = Call::default();
-        let mut answer = [0; 32];
+        let mut answer = [0; wtp::ffi::ANSWER];
         let reached = (0..500).any(|_| {
             draw_join(&mut random, &mut call);
             wtp::ffi::join(&call.octets, &call.words, &mut [0; 1500], &mut answer) == 0 && answer[0] == 1500

@@ -86,6 +86,9 @@ impl Pair {
             return Err(self.found(self.tally.calls + 1, call, SIDES, said, difference));
         }
         self.tally.count(call.kind, said[1]);
+        if let (0, Some(row)) = (said[1].number, said[1].row) {
+            self.tally.count_items(call.kind, row, library);
+        }
         self.show_progress();
         Ok(said[0].number)
     }

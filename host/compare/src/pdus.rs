@@ -68,9 +68,9 @@ fn invoke_octet(random: &mut Random) -> u8 {
     version | tidnew | random.octet() & 0b0001_1100 | class
 }
 
-/// An item, short or long, of an identity that is 1 (Info) mostly.
+/// An item, short or long, of an identity that is 1 (Info) often and unknown often.
 fn append_item(random: &mut Random, another: bool, pdu: &mut Vec<u8>) {
-    let identity = random.of(&[0, 1, 1, 1, 2, 15]);
+    let identity = if random.percent(40) { 6 + random.below(10) as u8 } else { random.of(&[0, 1, 1, 1, 1, 2, 3, 4, 5]) };
     let head = u8::from(another) << 7 | identity << 3;
     let length = if random.percent(60) {
         let length = random.below(4) as u8;

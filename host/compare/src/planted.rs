@@ -66,6 +66,15 @@ fn fired_without_its_time(call: &Call, buffers: &mut Buffers) -> Said {
     said
 }
 
+/// The library, but the place of an unknown item is that of its data.
+fn told_where_its_data_starts(call: &Call, buffers: &mut Buffers) -> Said {
+    let said = library(call, buffers);
+    if matches!(call.kind, Kind::Receive { .. }) && said.number == 0 && buffers.words[34] != 0 {
+        buffers.words[35] += 1;
+    }
+    said
+}
+
 fn refused_with_another_number(call: &Call, buffers: &mut Buffers) -> Said {
     let said = library(call, buffers);
     Said { number: if said.number == 7 { 6 } else { said.number }, ..said }
@@ -95,6 +104,13 @@ fn another_word_of_a_deadline_is_found() {
     let found = found(told_late);
     assert!(found.call.starts_with("deadline\n"));
     assert_eq!(found.difference.place, Place::Word(1));
+}
+
+#[test]
+fn another_place_of_an_unknown_item_is_found() {
+    let found = found(told_where_its_data_starts);
+    assert!(found.call.starts_with("receive: "));
+    assert_eq!(found.difference.place, Place::Word(35));
 }
 
 #[test]

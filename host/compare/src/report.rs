@@ -57,6 +57,7 @@ fn tell_record(view: View, place: usize, told: &mut String) {
         ("deadline", layout::DEADLINE),
         ("message length", layout::MESSAGE),
         ("waiting limit in force", layout::LIMIT),
+        ("unknown item", layout::UNKNOWN),
     ];
     let _ = write!(told, "  record {place}:");
     for (name, field) in fields {

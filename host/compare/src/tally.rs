@@ -1,6 +1,8 @@
 //! Counts the rows and outcomes that were reached, and knows which were never reached.
 
+use crate::buffers::Buffers;
 use crate::calls::Kind;
+use crate::items::Items;
 use crate::sides::Said;
 use kit::with_commas;
 use std::collections::BTreeMap;
@@ -23,6 +25,7 @@ pub struct Tally {
     pub calls: u64,
     rows: BTreeMap<Row, u64>,
     outcomes: BTreeMap<(&'static str, u64), u64>,
+    items: Items,
 }
 
 impl Tally {
@@ -34,6 +37,11 @@ impl Tally {
         if let Some(call) = kind.without_rows() {
             *self.outcomes.entry((call, said.number)).or_insert(0) += 1;
         }
+    }
+
+    /// Counts what an accepted call of this row told and sent of unknown items.
+    pub fn count_items(&mut self, kind: Kind, row: Row, left: &Buffers) {
+        self.items.count(kind, row, left);
     }
 
     fn row(&self, row: Row) -> u64 {
@@ -56,7 +64,7 @@ impl Tally {
     pub fn never_reached(&self) -> Vec<String> {
         let rows = Row::ALL.iter().filter(|row| self.row(**row) == 0).map(|row| row.name().to_string());
         let outcomes = self.outcomes().filter(|(_, count)| *count == 0).map(|(name, _)| name);
-        rows.chain(outcomes).collect()
+        rows.chain(outcomes).chain(self.items.never_reached()).collect()
     }
 }
 
@@ -72,7 +80,8 @@ fn outcome(number: u64) -> String {
 impl fmt::Display for Tally {
     fn fmt(&self, f: &mut fmt::Formatter) -> fmt::Result {
         Row::ALL.iter().try_for_each(|row| writeln!(f, "{:>11}  {}", with_commas(self.row(*row)), row.name()))?;
-        self.outcomes().try_for_each(|(name, count)| writeln!(f, "{:>11}  {name}", with_commas(count)))
+        self.outcomes().try_for_each(|(name, count)| writeln!(f, "{:>11}  {name}", with_commas(count)))?;
+        self.items.all().try_for_each(|(name, count)| writeln!(f, "{:>11}  {name}", with_commas(count)))
     }
 }
 

@@ -8,6 +8,10 @@ const STEP: u64 = 1_000;
 const SETTINGS: Settings =
     Settings { rcr_max: 4, aec_max: 1, a: 100, w: 1_000_000, r_class_1: [100; 9], r_class_2: [100; 9], waiting_limit: Some(100) };
 
+const CON: u8 = 0x80;
+const INVOKE: u8 = 1;
+const RESULT: u8 = 2;
+
 /// A PDU that was sent, or why none was.
 pub type Step = Result<Vec<u8>, String>;
 
@@ -17,13 +21,20 @@ pub struct Pair {
     responder: Table,
     tid: u16,
     now: u64,
+    /// The identity of an unknown item that each Invoke and Result is given on its way.
+    unknown: Option<u8>,
 }
 
 impl Pair {
     /// Both tables are fresh; `tid` is that of the transaction.
     pub fn new(tid: u16) -> Result<Pair, String> {
         let table = || Table::fresh(2, &SETTINGS, tid).map_err(|refused| refused.to_string());
-        Ok(Pair { initiator: table()?, responder: table()?, tid, now: 0 })
+        Ok(Pair { initiator: table()?, responder: table()?, tid, now: 0, unknown: None })
+    }
+
+    /// The same, but each Invoke and Result comes with an unknown item of this identity.
+    pub fn with_unknown_items(tid: u16, identity: u8) -> Result<Pair, String> {
+        Ok(Pair { unknown: Some(identity), ..Pair::new(tid)? })
     }
 
     /// The same, but the initiator's first Invoke has gone out before: that of the transaction is without TIDnew. `tid` isn't 0.
@@ -58,14 +69,14 @@ impl Pair {
 
     /// A PDU arrives at this end, which sends one.
     pub fn arrives(&mut self, at: Role, pdu: &[u8]) -> Step {
-        let now = self.now;
-        sent(self.end(at).receive(now, PEER, pdu))
+        let (now, pdu) = (self.now, self.on_its_way(pdu));
+        sent(self.end(at).receive(now, PEER, &pdu))
     }
 
     /// A PDU arrives at this end, which sends none.
     pub fn arrives_silently(&mut self, at: Role, pdu: &[u8]) -> Result<(), String> {
-        let now = self.now;
-        unsent(self.end(at).receive(now, PEER, pdu))
+        let (now, pdu) = (self.now, self.on_its_way(pdu));
+        unsent(self.end(at).receive(now, PEER, &pdu))
     }
 
     /// The timer fires the transaction at this end, which sends a PDU.
@@ -91,6 +102,19 @@ impl Pair {
     pub fn abort(&mut self, at: Role, reason: u8) -> Step {
         let (now, of) = (self.now, self.name(at));
         sent(self.end(at).abort(now, of, reason))
+    }
+
+    /// The PDU as it arrives.
+    fn on_its_way(&self, pdu: &[u8]) -> Vec<u8> {
+        let (first, header) = match pdu.first() {
+            Some(first) if first >> 3 == INVOKE => (*first, 4),
+            Some(first) if first >> 3 == RESULT => (*first, 3),
+            _ => return pdu.to_vec(),
+        };
+        match (self.unknown, pdu.get(1..header), pdu.get(header..)) {
+            (Some(identity), Some(fixed), Some(data)) => [&[CON | first], fixed, &[identity << 3], data].concat(),
+            _ => pdu.to_vec(),
+        }
     }
 
     fn fire(&mut self, at: Role) -> Result<Taken, Refused> {

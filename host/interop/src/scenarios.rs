@@ -13,6 +13,8 @@ pub struct Sent {
 const DATA: [usize; 3] = [0, 1, 1_024];
 const EXIT_INFORMATION: [usize; 6] = [0, 1, 2, 3, 4, 128];
 const USER_REASONS: [u8; 5] = [0, 1, 7, 0x80, 0xFF];
+/// No unknown item to be named, and some.
+const UNKNOWN: [Option<u8>; 4] = [None, Some(6), Some(10), Some(15)];
 
 struct List {
     sent: Vec<Sent>,
@@ -24,8 +26,10 @@ pub fn every_pdu() -> Result<Vec<Sent>, String> {
     let mut list = List { sent: Vec::new(), next_tid: 0 };
     list.invokes()?;
     list.verification()?;
-    list.last_acks_of_the_initiator()?;
-    list.acks_of_the_responder()?;
+    for unknown in UNKNOWN {
+        list.last_acks_of_the_initiator(unknown)?;
+        list.acks_of_the_responder(unknown)?;
+    }
     list.results()?;
     list.aborts_of_live_records()?;
     list.aborts_without_a_record()?;
@@ -37,6 +41,14 @@ impl List {
     /// A pair whose TID is another one each time, over the whole range.
     fn pair(&mut self) -> Result<Pair, String> {
         Pair::new(self.another_tid())
+    }
+
+    /// The same, with an unknown item of this identity in each Invoke and Result.
+    fn pair_with(&mut self, unknown: Option<u8>) -> Result<Pair, String> {
+        match unknown {
+            Some(identity) => Pair::with_unknown_items(self.another_tid(), identity),
+            None => self.pair(),
+        }
     }
 
     /// Only the first is 0.
@@ -92,34 +104,36 @@ impl List {
         Ok(())
     }
 
-    fn last_acks_of_the_initiator(&mut self) -> Result<(), String> {
+    fn last_acks_of_the_initiator(&mut self, unknown: Option<u8>) -> Result<(), String> {
         for count in EXIT_INFORMATION {
-            let mut pair = self.pair()?;
+            let mut pair = self.pair_with(unknown)?;
             let result = pair.resulted(true)?;
-            let con = if count == 0 { 0 } else { 0x80 };
-            let meant = format!("last Ack of the initiator, exit information {count}");
+            let (con, error) = items(unknown, count);
+            let meant = format!("last Ack of the initiator, exit information {count}{error}");
             self.note(0x18 | con, &meant, pair.answer(Initiator, &octets(count)))?;
             self.note(0x19 | con, format!("{meant}, repeat"), pair.arrives(Initiator, &repeated(&result)))?;
         }
-        let mut pair = self.pair()?;
+        let mut pair = self.pair_with(unknown)?;
         pair.resulted(false)?;
-        self.note(0x18, "last Ack of the initiator by the timer", pair.timer(Initiator)).map(|_| ())
+        let (con, error) = items(unknown, 0);
+        self.note(0x18 | con, format!("last Ack of the initiator by the timer{error}"), pair.timer(Initiator)).map(|_| ())
     }
 
-    fn acks_of_the_responder(&mut self) -> Result<(), String> {
+    fn acks_of_the_responder(&mut self, unknown: Option<u8>) -> Result<(), String> {
         for count in EXIT_INFORMATION {
-            let mut pair = self.pair()?;
+            let mut pair = self.pair_with(unknown)?;
             let invoke = pair.invoked(1, true)?;
-            let con = if count == 0 { 0 } else { 0x80 };
-            let meant = format!("last Ack of the responder, exit information {count}");
+            let (con, error) = items(unknown, count);
+            let meant = format!("last Ack of the responder, exit information {count}{error}");
             self.note(0x18 | con, &meant, pair.answer(Responder, &octets(count)))?;
             self.note(0x19 | con, format!("{meant}, repeat"), pair.arrives(Responder, &repeated(&invoke)))?;
         }
         for (class, meant) in [(1, "last Ack of the responder by the timer"), (2, "hold-on Ack")] {
-            let mut pair = self.pair()?;
+            let mut pair = self.pair_with(unknown)?;
             let invoke = pair.invoked(class, false)?;
-            self.note(0x18, meant, pair.timer(Responder))?;
-            self.note(0x19, format!("{meant}, repeat"), pair.arrives(Responder, &repeated(&invoke)))?;
+            let (con, error) = items(unknown, 0);
+            self.note(0x18 | con, format!("{meant}{error}"), pair.timer(Responder))?;
+            self.note(0x19 | con, format!("{meant}{error}, repeat"), pair.arrives(Responder, &repeated(&invoke)))?;
         }
         Ok(())
     }
@@ -195,6 +209,12 @@ impl List {
     }
 }
 
+/// The CON bit of an Ack that names an unknown item or has so much exit information, and what is meant by its Error item.
+fn items(unknown: Option<u8>, exit_information: usize) -> (u8, String) {
+    let con = if unknown.is_none() && exit_information == 0 { 0 } else { 0x80 };
+    (con, unknown.map_or_else(String::new, |identity| format!(", Error item for identity {identity}")))
+}
+
 fn called(role: Role) -> &'static str {
     match role {
         Initiator => "initiator",
@@ -247,6 +267,19 @@ mod tests {
         let with_tidnew = [0x01, 0x11, 0x02, 0x12, 0x21, 0x31, 0x22, 0x32];
         assert_eq!(fourth(0x0F).collect::<BTreeSet<u8>>(), with_tidnew.into_iter().collect());
         assert_eq!(fourth(0x0E).collect::<BTreeSet<u8>>(), with_tidnew.into_iter().chain([0, 0x10]).collect());
+    }
+
+    #[test]
+    fn an_error_item_comes_before_exit_information_of_every_length() {
+        let sent = every_pdu().unwrap();
+        let acks = sent.iter().filter(|sent| matches!(sent.pdu[0], 0x98 | 0x99)).map(|sent| &sent.pdu[3..]);
+        let found: BTreeSet<&[u8]> =
+            acks.filter(|items| items[0] & 0x7F == 1).map(|items| &items[..items.len().min(4)]).collect();
+        let after: [&[u8]; 6] = [&[], &[0x09, 0xFF], &[0x0A, 0xFF], &[0x0B, 0xFF], &[0x0C, 4], &[0x0C, 128]];
+        let items =
+            |identity: u8| after.map(|after| [&[if after.is_empty() { 0x01 } else { 0x81 }, 0x10 | identity], after].concat());
+        let expected: Vec<Vec<u8>> = UNKNOWN.into_iter().flatten().flat_map(items).collect();
+        assert_eq!(found, expected.iter().map(|items| &items[..]).collect());
     }
 
     #[test]

@@ -2,6 +2,9 @@
 
 use wtp::codec::{read, word, Fields};
 
+/// The identity of an Info item.
+const INFO: u64 = 1;
+
 /// A field by tshark's name. Its value is a number; `wtp.tpi` and `data` are octets in hex.
 pub type Field = (&'static str, String);
 
@@ -37,7 +40,7 @@ pub fn fields(pdu: &[u8]) -> Result<Vec<Field>, String> {
         (4, _) => fields.push(number("wtp.abort.reason.user", word::ABORT_REASON)),
         _ => {}
     }
-    fields.extend(item(&words, pdu));
+    fields.extend((0..at(word::ITEMS)).flat_map(|k| item(&words, pdu, k)));
     // Empty data is no field.
     fields.extend(part(pdu, at(word::USER_START), at(word::USER_LENGTH)).map(|data| ("data", data)));
     Ok(fields)
@@ -57,15 +60,16 @@ fn invoke(words: &Fields) -> Vec<Field> {
     fields
 }
 
-/// The one item that the engine sends: its header and data as octets, and the length of its data.
-fn item(words: &Fields, pdu: &[u8]) -> Vec<Field> {
-    match (words.get(word::ITEMS), words.get(word::ITEM..)) {
-        (Some(1), Some([identity, long, start, length, ..])) => {
+/// An item: its header and data as octets, its identity, and of an Info item the length of its data. Of an Error item tshark shows no more.
+fn item(words: &Fields, pdu: &[u8], k: u64) -> Vec<Field> {
+    let first = usize::try_from(k).ok().and_then(|k| k.checked_mul(4)).and_then(|k| k.checked_add(word::ITEM));
+    match first.and_then(|first| words.get(first..)) {
+        Some([identity, long, start, length, ..]) => {
             let header = if *long == 0 { 1 } else { 2 };
             let whole = part(pdu, start.saturating_sub(header), length.saturating_add(header));
             let octets = whole.map(|octets| ("wtp.tpi", octets));
-            let named = [("wtp.tpi.identity", identity.to_string()), ("wtp.tpi.info.length", length.to_string())];
-            octets.into_iter().chain(named).collect()
+            let info = (*identity == INFO).then(|| ("wtp.tpi.info.length", length.to_string()));
+            octets.into_iter().chain([("wtp.tpi.identity", identity.to_string())]).chain(info).collect()
         }
         _ => vec![],
     }

@@ -53,8 +53,10 @@ pub const DEADLINE: Field = field(8, 8, 0, LAST_TIME + LONGEST);
 pub const MESSAGE: Field = field(16, 4, 0, 1024);
 /// The waiting limit in force.
 pub const LIMIT: Field = field(20, 4, 0, LONGEST);
+/// The identity of an unknown item; 0 where there is none.
+pub const UNKNOWN: Field = field(24, 1, 6, 15);
 /// Spare octets of a record lie from here to its exit information.
-pub const RECORD_SPARE: usize = 24;
+pub const RECORD_SPARE: usize = 25;
 pub const EXIT: usize = 48;
 
 pub fn table_bytes(records: usize) -> usize {

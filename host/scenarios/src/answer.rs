@@ -13,7 +13,9 @@ const FIRED: usize = 3;
 const FIRST: usize = 4;
 const SECOND: usize = 16;
 const FIRED_NAME: usize = 28;
-const LAST: usize = 31;
+const FIRED_END: usize = 31;
+const UNKNOWN: usize = 34;
+const UNKNOWN_END: usize = 36;
 /// The first word of the name in a deadline.
 const DUE_NAME: usize = 2;
 
@@ -31,9 +33,14 @@ impl Answer<'_> {
         };
         let fired = match event {
             Event::Timer | Event::Fire(_) => self.fired(),
-            _ => self.odd(FIRED..FIRED + 1) + &self.odd(FIRED_NAME..LAST),
+            _ => self.odd(FIRED..FIRED + 1) + &self.odd(FIRED_NAME..FIRED_END),
         };
-        [self.sent(), tid, fired, self.shown(), self.odd(LAST..ANSWER), self.past(ANSWER)].concat()
+        let unknown = match event {
+            Event::Receive { .. } => self.unknown(),
+            _ => self.odd(UNKNOWN..UNKNOWN_END),
+        };
+        let zeros = [self.odd(FIRED_END..UNKNOWN), self.odd(UNKNOWN_END..ANSWER)].concat();
+        [self.sent(), tid, fired, self.shown(), unknown, zeros, self.past(ANSWER)].concat()
     }
 
     /// The words of a deadline.
@@ -74,9 +81,17 @@ impl Answer<'_> {
     /// The record that was fired, or that none was due.
     fn fired(&self) -> String {
         match self.word(FIRED) {
-            0 => "; none due".to_string() + &self.odd(FIRED_NAME..LAST),
+            0 => "; none due".to_string() + &self.odd(FIRED_NAME..FIRED_END),
             1 => format!("; fired {}", self.name(FIRED_NAME)),
             _ => self.odd(FIRED..FIRED + 1),
+        }
+    }
+
+    /// Identity and place of the first unknown item, where there is one.
+    fn unknown(&self) -> String {
+        match self.word(UNKNOWN) {
+            0 => self.odd(UNKNOWN..UNKNOWN_END),
+            identity => format!("; unknown {identity} at {}", self.word(UNKNOWN + 1)),
         }
     }
 

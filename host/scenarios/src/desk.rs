@@ -4,7 +4,7 @@ use kit::layout::{CELL, HEADER, RECORD};
 use wtp::ffi;
 
 /// The most that can be lent: a little more than a call ever needs, so that what is too long can be lent too.
-const MOST: Sizes = Sizes { table: HEADER + 49 * RECORD, store: 49 * CELL, out: 1200, answer: 40, settings: 40 };
+const MOST: Sizes = Sizes { table: HEADER + 49 * RECORD, store: 49 * CELL, out: 1200, answer: 48, settings: 40 };
 
 /// What the output and the answer hold before a call.
 pub const UNTOUCHED: u8 = 238;

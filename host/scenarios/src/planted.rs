@@ -36,7 +36,16 @@ fn writes_odd_words(_: Event, _: u64, _: &[u8], mut lent: Lent) -> u64 {
     accept(&mut lent);
     lent.answer[2] = 9;
     lent.answer[31] = 1;
+    lent.answer[34] = 6;
+    lent.answer[39] = 1;
     lent.answer[ANSWER] = 0;
+    0
+}
+
+/// A place without an identity.
+fn tells_a_place_alone(_: Event, _: u64, _: &[u8], mut lent: Lent) -> u64 {
+    accept(&mut lent);
+    lent.answer[35] = 4;
     0
 }
 
@@ -79,7 +88,11 @@ fn an_output_changed_past_the_pdu_is_told() {
 
 #[test]
 fn words_that_should_be_zero_or_untouched_are_told() {
-    assert_eq!(given(writes_odd_words, "tim 0 10"), ": ok; word 2 is 9; none due; word 31 is 1; changed word 32");
+    let told = ": ok; word 2 is 9; none due; word 34 is 6; word 31 is 1; word 39 is 1; changed word 40";
+    assert_eq!(given(writes_odd_words, "tim 0 10"), told);
+    let told = ": ok; word 2 is 9; unknown 6 at 0; word 31 is 1; word 39 is 1; changed word 40";
+    assert_eq!(given(writes_odd_words, "rcv 0 10 5 /18"), told);
+    assert_eq!(given(tells_a_place_alone, "rcv 0 10 5 /18"), ": ok; word 35 is 4");
 }
 
 #[test]

@@ -12,7 +12,7 @@ const RECORDS: usize = 2;
 /// Where the fields of docs/TABLE.md start, some of them taken together.
 const OF_HEADER: [usize; 10] =
     [0, 8, 10, 12, 20, layout::WAITING_LIMIT.at, layout::MODES.at, layout::TIDNEW_DUE.at, layout::SPARE, layout::CACHE];
-const OF_RECORD: [usize; 10] = [0, 1, 2, 4, 6, 8, 16, layout::LIMIT.at, layout::RECORD_SPARE, layout::EXIT];
+const OF_RECORD: [usize; 11] = [0, 1, 2, 4, 6, 8, 16, layout::LIMIT.at, layout::UNKNOWN.at, layout::RECORD_SPARE, layout::EXIT];
 
 /// A call that judges the table, and its number; it takes a time or it doesn't.
 type Judge = fn(Lent, u64) -> u64;
@@ -53,6 +53,13 @@ fn with_waiting_limit(mut table: Vec<u8>) -> Vec<u8> {
     table
 }
 
+/// The identities of unknown items at either end of their range.
+fn with_unknown_items(mut table: Vec<u8>) -> Vec<u8> {
+    layout::UNKNOWN.of_record(0).set(&mut table, layout::UNKNOWN.least);
+    layout::UNKNOWN.of_record(1).set(&mut table, layout::UNKNOWN.most);
+    table
+}
+
 /// How many tables that differ from this one in this octet aren't well formed. The last time that there is lies below no
 /// clock in range, so that the others are accepted.
 fn refused(judge: Judge, table: &[u8], at: usize) -> usize {
@@ -82,11 +89,13 @@ fn all_told(judge: Judge) -> String {
     let live = with_two_live(free.clone());
     let either = of_either_role(live.clone());
     let limited = with_waiting_limit(either.clone());
+    let unknown = with_unknown_items(limited.clone());
     let tables = [
         ("a fresh table of two records", free),
         ("the same with both records live", live),
         ("an initiator whose Invoke carries TIDnew, and a responder", either),
         ("the same with a waiting limit of 1, the first record with the longest in force", limited),
+        ("the same with the identity of an unknown item in both records", unknown),
     ];
     tables.iter().map(|(title, table)| format!("{title}\n{}", told(judge, table))).collect()
 }

@@ -1,5 +1,6 @@
 //! What an accepted call tells: the words of an answer.
 
+use crate::items::Unknown;
 use crate::pdu::Part;
 use crate::record::Name;
 use crate::words::ANSWER;
@@ -7,6 +8,7 @@ use crate::words::ANSWER;
 const FIRST: usize = 4;
 const INDICATION: usize = 12;
 const FIRED: usize = 28;
+const UNKNOWN: usize = 34;
 
 /// Where the data of an indication lies.
 #[derive(Clone, Copy, Debug, PartialEq, Eq)]
@@ -84,6 +86,10 @@ impl Answer {
     pub fn fired(&mut self, name: Name) {
         self.words[3] = 1;
         self.words[FIRED..FIRED + 3].copy_from_slice(&words_of(name));
+    }
+
+    pub fn unknown(&mut self, first: Unknown) {
+        self.words[UNKNOWN..UNKNOWN + 2].copy_from_slice(&[first.identity.into(), first.place as u64]);
     }
 
     pub fn words(&self) -> &[u64; ANSWER] {

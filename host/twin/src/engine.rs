@@ -72,12 +72,15 @@ impl<'a> Engine<'a> {
         self.answer.sent(output.length());
     }
 
-    /// Sends an Ack with the exit information that the place's record keeps, none where its length is 0.
-    pub fn send_ack_with_exit(&mut self, repeat: bool, name: Name, place: usize, length: u8) {
+    /// Sends a plain Ack: an Error item where `unknown` is an identity, then so much of the exit information of the record at this place.
+    pub fn send_plain_ack(&mut self, repeat: bool, name: Name, unknown: u8, place: usize, length: u8) {
         let mut output = Output::new(self.out);
-        let con = if length > 0 { 0x80 } else { 0 };
+        let con = |follows: bool| u8::from(follows) << 7;
         let [first, high, low] = sending::ack(false, repeat, name);
-        output.put(&[con | first, high, low]);
+        output.put(&[con(unknown > 0 || length > 0) | first, high, low]);
+        if unknown > 0 {
+            output.put(&[con(length > 0) | sending::ERROR_ITEM, sending::UNKNOWN_ITEM << 4 | unknown]);
+        }
         match length {
             0 => {}
             1..=3 => output.put(&[sending::INFO_ITEM | length]),

@@ -19,7 +19,7 @@ fn result_wait(at: Transaction, class: Class, event: Event) -> Outcome {
     match event {
         Event::Ack { tid_test: true, .. } => tidve(at, class),
         Event::Ack { tid_test: false, info, .. } => acknowledged(at, class, info),
-        Event::Result { ttr, data, .. } => result(at, class, ttr, data),
+        Event::Result { ttr, data, unknown, .. } => result(at, class, ttr, data, unknown),
         Event::Timer if class == Class::Two && at.record.hold_on && at.is_limited() => at.end_unheard(Row::IResultWaitLimit),
         Event::Timer => send_again(at, class),
         Event::SegmentedOrNack => Ok(Row::IResultWaitSegmented),
@@ -56,7 +56,7 @@ fn acknowledged(mut at: Transaction, class: Class, info: Data) -> Outcome {
     at.go_on(Row::IResultWaitFirstAck)
 }
 
-fn result(mut at: Transaction, class: Class, ttr: bool, data: Data) -> Outcome {
+fn result(mut at: Transaction, class: Class, ttr: bool, data: Data, unknown: u8) -> Outcome {
     if class == Class::One {
         return Ok(Row::IResultWaitResultClass1);
     }
@@ -68,6 +68,7 @@ fn result(mut at: Transaction, class: Class, ttr: bool, data: Data) -> Outcome {
         at.show(Indication::Confirmation { data: Data::none() });
     }
     at.show(Indication::Result { data });
+    at.record.unknown = unknown;
     at.record.aec = 0;
     at.start_timer_a();
     at.record.state = State::Initiator(InitiatorState::ResultRespWait);

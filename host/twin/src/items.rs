@@ -5,6 +5,8 @@ use crate::pdu::{Malformed, Part};
 
 /// The identity of an Info item.
 const INFO: u8 = 1;
+/// The last identity that section 8.4 has, that of a Frame Boundary.
+const LAST_KNOWN: u8 = 5;
 
 #[derive(Clone, Copy, Debug, Default, PartialEq, Eq)]
 pub struct Item {
@@ -19,6 +21,20 @@ pub struct Items {
     count: usize,
 }
 
+/// An item of an identity that section 8.4 hasn't, and the place of its first octet.
+#[derive(Clone, Copy, Debug, PartialEq, Eq)]
+pub struct Unknown {
+    pub identity: u8,
+    pub place: usize,
+}
+
+impl Item {
+    /// The place of its first octet.
+    fn place(&self) -> usize {
+        self.data.start - if self.long { 2 } else { 1 }
+    }
+}
+
 impl Items {
     pub fn iter(&self) -> impl Iterator<Item = &Item> {
         self.list.iter().take(self.count)
@@ -31,6 +47,17 @@ impl Items {
     /// The data of the first Info item.
     pub fn info(&self) -> Option<Part> {
         self.iter().find(|item| item.identity == INFO).map(|item| item.data)
+    }
+
+    /// The first unknown item.
+    pub fn unknown(&self) -> Option<Unknown> {
+        let first = self.iter().find(|item| item.identity > LAST_KNOWN)?;
+        Some(Unknown { identity: first.identity, place: first.place() })
+    }
+
+    /// The identity of the first unknown item, 0 where there is none.
+    pub fn unknown_identity(&self) -> u8 {
+        self.unknown().map_or(0, |unknown| unknown.identity)
     }
 }
 

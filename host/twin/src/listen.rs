@@ -14,6 +14,8 @@ pub struct First<'p> {
     pub flags: Flags,
     pub invoke: Invoke,
     pub data: Part,
+    /// The identity of its first unknown item, 0 where it has none.
+    pub unknown: u8,
     pub octets: &'p [u8],
 }
 
@@ -78,7 +80,7 @@ fn test_tid(engine: &mut Engine, name: Name, class: Class, first: &First) -> Row
         None => return Row::InvokeTableFull,
     };
     let state = State::Responder(ResponderState::TidokWait(class));
-    let record = Record::new(state, name.peer, name.tid, first.invoke.user_ack);
+    let record = Record { unknown: first.unknown, ..Record::new(state, name.peer, name.tid, first.invoke.user_ack) };
     let at = Transaction { engine, place, record };
     let row = match (at.engine.table.last_tid(name.peer), first.invoke.tidnew) {
         (Some(last), false) if is_valid(name.tid, last) => return valid(at, class, first),

@@ -26,6 +26,10 @@ fn words_of(pdu: &Pdu) -> [u64; FIELDS] {
     words[TID] = pdu.tid.into();
     put_body(&mut words, &pdu.body);
     words[ITEMS] = pdu.items.count() as u64;
+    if let Some(unknown) = pdu.items.unknown() {
+        words[UNKNOWN_IDENTITY] = unknown.identity.into();
+        words[UNKNOWN_PLACE] = unknown.place as u64;
+    }
     for (item, four) in pdu.items.iter().zip(words[ITEM..].chunks_exact_mut(ITEM_WORDS)) {
         four.copy_from_slice(&[item.identity.into(), item.long.into(), item.data.start as u64, item.data.length as u64]);
     }

@@ -3,7 +3,7 @@
 use crate::engine::Engine;
 use crate::event::Event;
 use crate::listen;
-use crate::pdu::{self, Body};
+use crate::pdu::{self, Body, Pdu};
 use crate::record::{Name, Role};
 use crate::sending::{self, INVALIDTID, PROTOERR, PROVIDER};
 use crate::transaction::Transaction;
@@ -22,11 +22,16 @@ fn carry_out(lent: Lent, now: u64, peer: u64, pdu: &[u8]) -> Result<Said, Said> 
     if !(1..=bounds::PDU).contains(&pdu.len()) {
         return Err(Said { number: 11, row: Row::Receive11 });
     }
-    let row = dispatch(&mut engine, peer, pdu);
+    let read = pdu::parse(pdu).ok();
+    if let Some(unknown) = read.as_ref().and_then(|read| read.items.unknown()) {
+        engine.answer.unknown(unknown);
+    }
+    let row = dispatch(&mut engine, peer, pdu, read.as_ref());
     Ok(engine.accept(row))
 }
 
-fn dispatch(engine: &mut Engine, peer: u8, octets: &[u8]) -> Row {
+/// `read` is the PDU in these octets, `None` where it is malformed.
+fn dispatch(engine: &mut Engine, peer: u8, octets: &[u8], read: Option<&Pdu>) -> Row {
     let (first, tid) = match octets {
         [first, high, low, ..] => (*first, u16::from_be_bytes([*high, *low])),
         _ => return Row::ShortPdu,
@@ -41,25 +46,31 @@ fn dispatch(engine: &mut Engine, peer: u8, octets: &[u8]) -> Row {
     let name = Name { role, peer, tid: tid & bounds::TID };
     match engine.table.find(name) {
         Some((place, record)) => {
-            let event = pdu::parse(octets).map_or(Event::Malformed, |pdu| Event::of(&pdu));
+            let event = read.map_or(Event::Malformed, Event::of);
             // A received PDU is never refused, so that both cases are the row.
             Transaction { engine, place, record }.meet(event).unwrap_or_else(|row| row)
         }
-        None => without_record(engine, name, octets, pdu::type_of(first) == INVOKE),
+        None => match read {
+            Some(pdu) => without_record(engine, name, octets, pdu),
+            None => malformed_without_record(engine, name, pdu::type_of(first) == INVOKE),
+        },
     }
 }
 
-fn without_record(engine: &mut Engine, name: Name, octets: &[u8], is_invoke: bool) -> Row {
-    let pdu = match pdu::parse(octets) {
-        Ok(pdu) => pdu,
-        Err(_) if is_invoke => {
-            engine.send(&sending::abort(PROVIDER, PROTOERR, name));
-            return Row::NoRecordMalformedInvoke;
-        }
-        Err(_) => return Row::NoRecordMalformedOther,
-    };
+fn malformed_without_record(engine: &mut Engine, name: Name, is_invoke: bool) -> Row {
+    if !is_invoke {
+        return Row::NoRecordMalformedOther;
+    }
+    engine.send(&sending::abort(PROVIDER, PROTOERR, name));
+    Row::NoRecordMalformedInvoke
+}
+
+fn without_record(engine: &mut Engine, name: Name, octets: &[u8], pdu: &Pdu) -> Row {
     match pdu.body {
-        Body::Invoke { flags, invoke, data } => listen::invoke(engine, name, &listen::First { flags, invoke, data, octets }),
+        Body::Invoke { flags, invoke, data } => {
+            let unknown = pdu.items.unknown_identity();
+            listen::invoke(engine, name, &listen::First { flags, invoke, data, unknown, octets })
+        }
         Body::Ack { tid_test: true, .. } if name.role == Role::Initiator => {
             engine.send(&sending::abort(PROVIDER, INVALIDTID, name));
             Row::NoRecordTidve

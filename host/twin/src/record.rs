@@ -4,6 +4,8 @@ use crate::bounds;
 use crate::octets::{array_at, put_at};
 
 pub const OCTETS: usize = 176;
+/// Where the identity of an unknown item lies in a record.
+const UNKNOWN: usize = 24;
 /// Where the exit information starts in a record.
 pub const EXIT: usize = 48;
 
@@ -128,6 +130,8 @@ pub struct Record {
     pub message_length: u32,
     /// The waiting limit that is the deadline; 0 where it is an ordinary timer's, or where there is none.
     pub limit: u32,
+    /// The identity of the unknown item that plain Acks name, 0 where there is none.
+    pub unknown: u8,
 }
 
 impl Record {
@@ -147,6 +151,7 @@ impl Record {
             deadline: None,
             message_length: 0,
             limit: 0,
+            unknown: 0,
         }
     }
 
@@ -173,6 +178,7 @@ impl Record {
             deadline: (deadline != 0).then_some(deadline),
             message_length: u32::from_le_bytes(array_at(octets, 16)),
             limit: u32::from_le_bytes(array_at(octets, 20)),
+            unknown: octets[UNKNOWN],
         })
     }
 
@@ -192,6 +198,7 @@ impl Record {
         put_at(octets, 8, &self.deadline.unwrap_or(0).to_le_bytes());
         put_at(octets, 16, &self.message_length.to_le_bytes());
         put_at(octets, 20, &self.limit.to_le_bytes());
+        octets[UNKNOWN] = self.unknown;
     }
 
     /// Whether a record decoded from these octets has all fields in range.
@@ -204,6 +211,7 @@ impl Record {
             && self.deadline.unwrap_or(0) <= bounds::DEADLINE
             && self.message_length <= bounds::CELL as u32
             && self.limit <= bounds::INTERVAL
-            && octets[24..EXIT] == [0; 24]
+            && matches!(self.unknown, 0 | 6..=15)
+            && octets[UNKNOWN + 1..EXIT] == [0; EXIT - UNKNOWN - 1]
     }
 }

@@ -100,7 +100,7 @@ fn acknowledge(mut at: Transaction, exit: &[u8], row: Row) -> Outcome {
 }
 
 fn hold_on(mut at: Transaction, row: Row) -> Outcome {
-    at.send_plain_ack(false);
+    at.send_hold_on(false);
     at.record.hold_on_sent = true;
     at.start_no_timer();
     at.record.state = State::Responder(ResponderState::ResultWait);
@@ -123,7 +123,7 @@ fn result_wait(mut at: Transaction, event: Event) -> Outcome {
         Event::Timer if at.record.hold_on_sent && at.is_limited() => at.give_up(NORESPONSE, Row::RResultWaitLimit),
         Event::Timer => hold_on(at, Row::RResultWaitTimer),
         Event::Invoke { rid: true } if at.record.hold_on_sent => {
-            at.send_plain_ack(true);
+            at.send_hold_on(true);
             Ok(Row::RResultWaitInvokeAgain)
         }
         Event::Invoke { rid: true } => Ok(Row::RResultWaitInvokeNoHoldOn),

@@ -12,6 +12,9 @@ pub const WTPVERSIONONE: u8 = 6;
 pub const CAPTEMPEXCEEDED: u8 = 7;
 pub const NORESPONSE: u8 = 8;
 
+/// The first octet of a last Error item of one octet, and the error code in the high half of that octet; its low half is the identity.
+pub const ERROR_ITEM: u8 = 0x01;
+pub const UNKNOWN_ITEM: u8 = 1;
 /// The first octet of a last Info item, without its length.
 pub const INFO_ITEM: u8 = 0x08;
 pub const LONG_FORM: u8 = 0x04;

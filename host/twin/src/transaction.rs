@@ -88,8 +88,8 @@ impl Transaction<'_, '_> {
         self.engine.send(&sending::ack(true, repeat, self.record.name()));
     }
 
-    pub fn send_plain_ack(&mut self, repeat: bool) {
-        self.engine.send(&sending::ack(false, repeat, self.record.name()));
+    pub fn send_hold_on(&mut self, repeat: bool) {
+        self.send_plain_ack(repeat, 0);
     }
 
     /// The last Ack for the first time: with the user's exit information, which the record keeps.
@@ -104,7 +104,12 @@ impl Transaction<'_, '_> {
     }
 
     fn send_last_ack_from_record(&mut self, repeat: bool) {
-        self.engine.send_ack_with_exit(repeat, self.record.name(), self.place, self.record.exit_length);
+        self.send_plain_ack(repeat, self.record.exit_length);
+    }
+
+    /// Hold-on and last Ack name the unknown item that the record keeps.
+    fn send_plain_ack(&mut self, repeat: bool, exit_length: u8) {
+        self.engine.send_plain_ack(repeat, self.record.name(), self.record.unknown, self.place, exit_length);
     }
 
     fn send_abort(&mut self, kind: u8, reason: u8) {

@@ -1,7 +1,7 @@
 //! The words of a PDU and their number; how many words an answer, a part and a deadline have.
 
 pub const FIELDS: usize = 88;
-pub const ANSWER: usize = 32;
+pub const ANSWER: usize = 40;
 pub const PART: usize = 3;
 pub const DUE: usize = 5;
 pub const SETTINGS: usize = 32;
@@ -24,6 +24,9 @@ pub const NACK_START: usize = 14;
 pub const ITEMS: usize = 15;
 pub const USER_START: usize = 16;
 pub const USER_LENGTH: usize = 17;
+/// Identity and place of the first unknown item.
+pub const UNKNOWN_IDENTITY: usize = 18;
+pub const UNKNOWN_PLACE: usize = 19;
 /// The first word of item 0; each item has four: identity, form, start, length.
 pub const ITEM: usize = 24;
 pub const ITEM_WORDS: usize = 4;

@@ -98,6 +98,8 @@ impl Wanted<'_> {
             NACK_START if kind == 7 => u64::MAX,
             USER_START if message => u64::MAX,
             ITEMS | USER_LENGTH => u64::MAX,
+            // What the reader told of an unknown item is passed over.
+            UNKNOWN_IDENTITY | UNKNOWN_PLACE => u64::MAX,
             _ => 0,
         }
     }

@@ -3,6 +3,7 @@
 use crate::ffi;
 use crate::refused::{accepted, Refused};
 use crate::taken::part;
+use crate::unknown::{self, Unknown};
 
 /// Places of the words of a PDU.
 pub mod word {
@@ -24,6 +25,8 @@ pub mod word {
     pub const ITEMS: usize = 15;
     pub const USER_START: usize = 16;
     pub const USER_LENGTH: usize = 17;
+    pub const UNKNOWN_IDENTITY: usize = 18;
+    pub const UNKNOWN_PLACE: usize = 19;
     /// Item k has the four words from `ITEM` + 4k on: identity, 1 for the long form, start and length of its data.
     pub const ITEM: usize = 24;
 }
@@ -36,6 +39,11 @@ pub fn read(pdu: &[u8]) -> Result<Fields, Refused> {
     let mut fields = [0; ffi::FIELDS];
     accepted(ffi::read(pdu, &mut fields))?;
     Ok(fields)
+}
+
+/// The first unknown item of a PDU that was read.
+pub fn unknown(fields: &Fields) -> Option<Unknown> {
+    unknown::unknown(fields[word::UNKNOWN_IDENTITY], fields[word::UNKNOWN_PLACE]).flatten()
 }
 
 /// Writes the PDU that the words say; its Nack list, items and user data lie in `bytes`.

@@ -5,7 +5,7 @@
 //! The library has no memory of its own: calls may come from any thread.
 
 /// Words of an answer.
-pub const ANSWER: usize = 32;
+pub const ANSWER: usize = 40;
 /// Words of settings.
 pub const SETTINGS: usize = 32;
 /// Words of a PDU.

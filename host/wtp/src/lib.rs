@@ -15,6 +15,7 @@ mod settings;
 mod shown;
 mod table;
 mod taken;
+mod unknown;
 
 pub use deadline::Deadline;
 pub use refused::Refused;
@@ -22,3 +23,4 @@ pub use settings::Settings;
 pub use shown::{Abort, Name, NonEmpty, Reason, Role, Shown};
 pub use table::Table;
 pub use taken::Taken;
+pub use unknown::Unknown;

@@ -2,6 +2,7 @@
 
 use crate::ffi;
 use crate::shown::{Abort, Name, NonEmpty, Reason, Role, Shown};
+use crate::unknown::{unknown, Unknown};
 
 /// What an accepted call left to do.
 #[derive(Debug, Clone, PartialEq, Eq)]
@@ -14,6 +15,8 @@ pub struct Taken {
     pub tid: Option<u16>,
     /// The record that was fired.
     pub fired: Option<Name>,
+    /// The first unknown item of the PDU that was received, whatever else it did.
+    pub unknown: Option<Unknown>,
 }
 
 /// The octets that an answer's places point into.
@@ -27,6 +30,9 @@ const FIRST: usize = 4;
 const SECOND: usize = 16;
 const WORDS: usize = 12;
 const FIRED_NAME: usize = 28;
+const FIRED_END: usize = 31;
+const UNKNOWN: usize = 34;
+const UNKNOWN_END: usize = 36;
 
 /// Reads an answer; `requested` says whether its TID was given to a request.
 pub(crate) fn take(answer: &[u64; ffi::ANSWER], places: &Places, requested: bool) -> Option<Taken> {
@@ -37,6 +43,7 @@ pub(crate) fn take(answer: &[u64; ffi::ANSWER], places: &Places, requested: bool
         shown: all_shown(answer, places, indications)?,
         tid: if requested { Some(u16::try_from(tid).ok()?) } else { None },
         fired: if flag(fired)? { Some(fired_name(answer)?) } else { None },
+        unknown: unknown_item(answer)?,
     })
 }
 
@@ -92,8 +99,15 @@ fn abort(abort_type: u64, reason: u64) -> Option<Abort> {
 }
 
 fn fired_name(answer: &[u64; ffi::ANSWER]) -> Option<Name> {
-    match answer.get(FIRED_NAME..) {
-        Some([role, peer, tid, _]) => name(*role, *peer, *tid),
+    match answer.get(FIRED_NAME..FIRED_END) {
+        Some([role, peer, tid]) => name(*role, *peer, *tid),
+        _ => None,
+    }
+}
+
+fn unknown_item(answer: &[u64; ffi::ANSWER]) -> Option<Option<Unknown>> {
+    match answer.get(UNKNOWN..UNKNOWN_END) {
+        Some([identity, place]) => unknown(*identity, *place),
         _ => None,
     }
 }
@@ -155,5 +169,16 @@ mod tests {
         assert_eq!(taken(&[(1, 1), (4, 4), (10, 2)]), None, "an abort of neither provider nor user");
         assert_eq!(taken(&[(1, 1), (4, 4), (11, 256)]), None, "a reason that is no octet");
         assert_eq!(taken(&[(3, 1), (29, 65_536)]), None, "a peer that is too wide");
+        for (identity, place) in [(0, 4), (5, 4), (16, 4), (6, 65_536)] {
+            assert_eq!(taken(&[(34, identity), (35, place)]), None, "identity {identity} at {place}");
+        }
+    }
+
+    #[test]
+    fn an_unknown_item_is_told_by_its_identity_and_place() {
+        let unknown = |words: &[(usize, u64)]| taken(words).map(|taken| taken.unknown);
+        assert_eq!(unknown(&[]), Some(None));
+        assert_eq!(unknown(&[(34, 6), (35, 3)]), Some(Some(Unknown { identity: 6, place: 3 })));
+        assert_eq!(unknown(&[(34, 15), (35, 1_499)]), Some(Some(Unknown { identity: 15, place: 1_499 })));
     }
 }

@@ -1,7 +1,7 @@
 //! The bench cases of document 01, over the wrapper.
 
-use wtp::codec::{join, read, read_part, separate, word, write};
-use wtp::Refused;
+use wtp::codec::{join, read, read_part, separate, unknown, word, write};
+use wtp::{Refused, Unknown};
 
 #[test]
 fn what_is_read_is_written_again() {
@@ -10,6 +10,15 @@ fn what_is_read_is_written_again() {
     assert_eq!((fields[word::TYPE], fields[word::TID], fields[word::ITEMS]), (3, 5, 1));
     assert_eq!(fields[word::ITEM..word::ITEM + 4], [1, 0, 4, 2]);
     assert_eq!(write(&fields, &ack).unwrap(), ack);
+}
+
+#[test]
+fn the_first_unknown_item_is_told_and_written_again() {
+    let invoke = [0x8E, 0, 0x40, 0x11, 0x91, 9, 0x9A, 1, 2, 0xF9, 2, 0x30, 0xEE];
+    let fields = read(&invoke).unwrap();
+    assert_eq!(unknown(&fields), Some(Unknown { identity: 15, place: 9 }));
+    assert_eq!(write(&fields, &invoke).unwrap(), invoke);
+    assert_eq!(unknown(&read(&[0x98, 0, 5, 0x81, 0x1F, 0x28]).unwrap()), None);
 }
 
 #[test]

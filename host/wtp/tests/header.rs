@@ -53,6 +53,14 @@ fn the_words_of_settings_are_where_the_wrapper_puts_them() {
 }
 
 #[test]
+fn the_words_of_an_answer_are_where_the_wrapper_reads_them() {
+    let first = ["WTP_SENT", "WTP_INDICATIONS", "WTP_GIVEN_TID", "WTP_FIRED", "WTP_FIRST"];
+    assert!(first.iter().map(|name| value(name)).eq(0..5));
+    assert_eq!(["WTP_SECOND", "WTP_FIRED_ROLE", "WTP_FIRED_PEER", "WTP_FIRED_TID"].map(value), [16, 28, 29, 30]);
+    assert_eq!(["WTP_TOLD_UNKNOWN_IDENTITY", "WTP_TOLD_UNKNOWN_PLACE"].map(value), [34, 35]);
+}
+
+#[test]
 fn the_words_of_a_deadline_are_in_the_order_in_which_the_wrapper_reads_them() {
     let words = ["WTP_DUE_ANY", "WTP_DUE_AT", "WTP_DUE_ROLE", "WTP_DUE_PEER", "WTP_DUE_TID"];
     assert!(words.iter().map(|name| value(name)).eq(0..ffi::DUE));
@@ -79,6 +87,8 @@ fn the_words_of_a_pdu_are_those_of_the_header() {
         ("WTP_ITEMS", word::ITEMS),
         ("WTP_USER_START", word::USER_START),
         ("WTP_USER_LENGTH", word::USER_LENGTH),
+        ("WTP_UNKNOWN_IDENTITY", word::UNKNOWN_IDENTITY),
+        ("WTP_UNKNOWN_PLACE", word::UNKNOWN_PLACE),
         ("WTP_ITEM", word::ITEM),
     ];
     for (name, place) in words {

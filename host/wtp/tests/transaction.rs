@@ -3,7 +3,7 @@
 mod common;
 
 use common::{initiator, responder, table, PEER, SETTINGS};
-use wtp::{Abort, Deadline, NonEmpty, Reason, Settings, Shown, Table, Taken};
+use wtp::{Abort, Deadline, NonEmpty, Reason, Settings, Shown, Table, Taken, Unknown};
 
 /// A reader, which requests, a gateway, which answers, and their common clock.
 struct Link {
@@ -105,6 +105,19 @@ fn an_abort_is_an_abort() {
 }
 
 #[test]
+fn an_unknown_item_is_told_and_named_in_the_last_ack() {
+    let mut link = Link::new();
+    let (tid, _) = link.ask(2, b"sampler 20");
+    let [high, low] = (tid | 0x8000).to_be_bytes();
+    let taken = link.reader.receive(link.now, PEER, &[0x96, high, low, 0x8A, 1, 2, 0x4B, 3, 4, 5, b'!']).unwrap();
+    assert_eq!(taken.unknown, Some(Unknown { identity: 9, place: 6 }));
+    assert_eq!(taken.shown[1], Shown::Result { of: initiator(tid), data: non_empty(b"!") });
+    let taken = link.reader.answer(link.now, initiator(tid), b"ok").unwrap();
+    let [high, low] = tid.to_be_bytes();
+    assert_eq!((taken.sent, taken.unknown), (Some(vec![0x98, high, low, 0x81, 0x19, 0x0A, b'o', b'k']), None));
+}
+
+#[test]
 fn data_is_found_in_the_store_and_in_the_datagram() {
     let mut link = Link::new();
     // The gateway knows no TID yet: the first Invoke is verified and shown from the store, the second as it comes.
@@ -166,7 +179,7 @@ fn the_timer_resends_and_then_aborts() {
     let mut reader = table(1);
     let first = reader.request(0, PEER, 2, false, b"").unwrap();
     assert_eq!(first.sent.as_deref(), Some(&[0x0E, 0x00, 0x05, 0x22][..]));
-    let nothing = Taken { sent: None, shown: vec![], tid: None, fired: None };
+    let nothing = Taken { sent: None, shown: vec![], tid: None, fired: None, unknown: None };
     assert_eq!(reader.timer(4_999).unwrap(), nothing);
     for now in [5_000, 10_000] {
         let sent = Some(vec![0x0F, 0x00, 0x05, 0x22]);
@@ -210,7 +223,7 @@ fn a_wait_without_a_timer_ends_with_the_waiting_limit() {
     let mut gateway = Table::fresh(1, &limited, 5).unwrap();
     gateway.receive(0, PEER, &[0x0E, 0x00, 0x05, 0x02]).unwrap();
     assert_eq!(gateway.deadline(), Ok(Some(Deadline { at: 60_000, of: responder(5) })), "it is verified");
-    let nothing = Taken { sent: None, shown: vec![], tid: None, fired: Some(responder(5)) };
+    let nothing = Taken { sent: None, shown: vec![], tid: None, fired: Some(responder(5)), unknown: None };
     assert_eq!(gateway.fire(60_000, responder(5)), Ok(nothing.clone()));
     assert_eq!(gateway.deadline(), Ok(None));
     let mut reader = Table::fresh(1, &limited, 5).unwrap();

@@ -14,6 +14,9 @@ pub enum Length {
 
 const SHORT: usize = 32;
 const NAMES: [&str; 8] = ["type 0", "Invoke", "Result", "Ack", "Abort", "Segmented Invoke", "Segmented Result", "Nack"];
+/// The identities of section 8.4; all others are unknown.
+const ITEM_NAMES: [&str; 6] = ["Error", "Info", "Option", "Packet Sequence Number", "SDU Boundary", "Frame Boundary"];
+const ERROR: u64 = 0;
 const REASONS: [(u8, &str); 6] = [
     (1, "PROTOERR"),
     (2, "INVALIDTID"),
@@ -95,11 +98,30 @@ fn item(fields: &Fields, pdu: &[u8], k: u64, length: Length) -> String {
     match first.and_then(|first| fields.get(first..)) {
         Some([identity, long, start, count, ..]) => {
             let form = if *long == 0 { "short" } else { "long" };
-            let name = if *identity == 1 { " Info" } else { "" };
-            let shown = data(part(pdu, *start, *count), length);
-            format!("item {}: identity {identity}{name}, {form}, {shown}", k.saturating_add(1))
+            let octets = part(pdu, *start, *count);
+            let (name, error) = (item_name(*identity), if *identity == ERROR { error(octets) } else { String::new() });
+            format!("item {}: identity {identity} {name}{error}, {form}, {}", k.saturating_add(1), data(octets, length))
         }
         _ => format!("item {}", k.saturating_add(1)),
+    }
+}
+
+fn item_name(identity: u64) -> &'static str {
+    usize::try_from(identity).ok().and_then(|identity| ITEM_NAMES.get(identity)).copied().unwrap_or("unknown")
+}
+
+/// The code of an Error item and the identity that it is about, which share its first octet.
+fn error(octets: &[u8]) -> String {
+    match octets.first() {
+        Some(octet) => {
+            let meaning = match octet >> 4 {
+                1 => " (unknown item)",
+                2 => " (unknown content of a known item)",
+                _ => "",
+            };
+            format!(", error code {}{meaning} for identity {}", octet >> 4, octet & 15)
+        }
+        None => ", no error code".to_string(),
     }
 }
 

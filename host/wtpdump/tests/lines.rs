@@ -51,9 +51,34 @@ fn items_have_identity_form_length_and_data() {
     assert!(line.contains("malformed D7 at octet 6:"), "{line}");
     let line = words("9800058AAABB140101");
     assert!(
-        line.ends_with("item 1: identity 1 Info, short, 2 octets: AA BB \"..\", item 2: identity 2, long, 1 octet: 01 \".\""),
+        line.ends_with(
+            "item 1: identity 1 Info, short, 2 octets: AA BB \"..\", item 2: identity 2 Option, long, 1 octet: 01 \".\""
+        ),
         "{line}"
     );
+}
+
+#[test]
+fn an_error_item_has_its_code_and_the_identity_that_it_names() {
+    for (hex, expected) in [
+        ("988040811F0AAABB", "item 1: identity 0 Error, error code 1 (unknown item) for identity 15, short, 1 octet: 1F \".\", item 2: identity 1 Info, short, 2 octets: AA BB \"..\""),
+        ("998042 0116", "Tve/Tok 0, RID 1, item 1: identity 0 Error, error code 1 (unknown item) for identity 6, short, 1 octet: 16 \".\""),
+        ("980005 02 22 41", "item 1: identity 0 Error, error code 2 (unknown content of a known item) for identity 2, short, 2 octets: 22 41 \".A\""),
+        ("980005 04 01 7F", "item 1: identity 0 Error, error code 7 for identity 15, long, 1 octet: 7F \".\""),
+        ("980005 00", "item 1: identity 0 Error, no error code, short, 0 octets"),
+    ] {
+        assert!(words(hex).ends_with(expected), "{}", words(hex));
+    }
+}
+
+#[test]
+fn every_item_has_its_name_and_one_that_is_not_in_section_8_4_is_unknown() {
+    let names = ["Error", "Info", "Option", "Packet Sequence Number", "SDU Boundary", "Frame Boundary"];
+    for identity in 0..16 {
+        let name = names.get(identity).copied().unwrap_or("unknown");
+        let line = words(&format!("980005{:02X}0111", 8 * identity + 4));
+        assert!(line.contains(&format!(", item 1: identity {identity} {name}, ")), "{line}");
+    }
 }
 
 #[test]

@@ -87,7 +87,7 @@ fn the_distance_of_tids_is_taken_modulo_32_768() {
 #[test]
 fn lengths_of_127_and_128_are_written_in_their_forms() {
     let joined = |length: usize| {
-        let (mut out, mut answer) = (vec![0xEE; 1500], vec![7; 32]);
+        let (mut out, mut answer) = (vec![0xEE; 1500], vec![7; 40]);
         assert_eq!(crate::join(&vec![1; length], &[length as u64], &mut out, &mut answer), 0);
         out[..answer[0] as usize].to_vec()
     };

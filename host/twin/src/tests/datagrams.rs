@@ -37,9 +37,9 @@ fn what_cannot_be_separated_gives_11_for_the_whole() {
 }
 
 fn join(bytes: &[u8], lengths: &[u64]) -> u64 {
-    let (mut out, mut answer) = (vec![0xEE; 1500], vec![7; 32]);
+    let (mut out, mut answer) = (vec![0xEE; 1500], vec![7; 40]);
     let number = crate::join(bytes, lengths, &mut out, &mut answer);
-    let untouched = out.iter().all(|octet| *octet == 0xEE) && answer == [7; 32];
+    let untouched = out.iter().all(|octet| *octet == 0xEE) && answer == [7; 40];
     assert_eq!(number != 0, untouched);
     number
 }
@@ -52,14 +52,14 @@ fn what_cannot_be_joined_gives_11() {
     assert_eq!(join(&[1; 3], &[u64::MAX, 4]), 11);
     assert_eq!(join(&[1; 1498], &[1498]), 11);
     assert_eq!(join(&[1; 1497], &[1497]), 0);
-    assert_eq!(crate::join(&[], &[], &mut [0; 1499], &mut [0; 32]), 1);
-    assert_eq!(crate::join(&[], &[], &mut [0; 1500], &mut [0; 31]), 1);
+    assert_eq!(crate::join(&[], &[], &mut [0; 1499], &mut [0; 40]), 1);
+    assert_eq!(crate::join(&[], &[], &mut [0; 1500], &mut [0; 39]), 1);
 }
 
 #[test]
 fn joined_pdus_are_separated_again() {
-    let (mut out, mut answer) = (vec![0; 1500], vec![7; 33]);
+    let (mut out, mut answer) = (vec![0; 1500], vec![7; 41]);
     assert_eq!(crate::join(&[1; 330], &[130, 200], &mut out, &mut answer), 0);
-    assert_eq!((answer[0], answer[32]), (335, 7));
+    assert_eq!((answer[0], &answer[1..]), (335, &[&[0; 39][..], &[7]].concat()[..]));
     assert_eq!(parts(&out[..335]), Ok(vec![[3, 130], [135, 200]]));
 }

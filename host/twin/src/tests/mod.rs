@@ -9,6 +9,7 @@ mod tables;
 mod tidnew;
 mod timer;
 mod transactions;
+mod unknown;
 mod waiting;
 
 use crate::{Lent, Said};
@@ -86,7 +87,7 @@ impl End {
     pub fn with(records: u64, first_tid: u64, settings: &[u64]) -> End {
         let mut table = vec![0xA5; crate::table_bytes(records) as usize];
         assert_eq!(crate::fresh(&mut table, settings, first_tid), 0);
-        End { table, store: vec![0x5A; 1024 * records as usize], out: vec![0xEE; 1030], answer: vec![7; 34] }
+        End { table, store: vec![0x5A; 1024 * records as usize], out: vec![0xEE; 1030], answer: vec![7; 42] }
     }
 
     pub fn of_the_reading(records: u64, first_tid: u64) -> End {
@@ -99,8 +100,8 @@ impl End {
         let said = act(Lent { table, store, out, answer });
         if said.number == 0 {
             assert_eq!(self.out[self.answer[0] as usize..], before.out[self.answer[0] as usize..]);
-            assert_eq!(self.answer[32..], before.answer[32..]);
-            assert_eq!(self.answer[31], 0);
+            assert_eq!(self.answer[40..], before.answer[40..]);
+            assert_eq!((self.answer[31], &self.answer[36..40]), (0, &[0; 4][..]));
         } else {
             assert_eq!(*self, before, "{said:?} changed something");
         }
@@ -151,6 +152,11 @@ impl End {
     /// The PDU that the last accepted call sent.
     pub fn sent(&self) -> Vec<u8> {
         self.out[..self.answer[0] as usize].to_vec()
+    }
+
+    /// Identity and place of the first unknown item that the last accepted call told.
+    pub fn unknown(&self) -> [u64; 2] {
+        [self.answer[34], self.answer[35]]
     }
 
     /// The indications of the last accepted call.

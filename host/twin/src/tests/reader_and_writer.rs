@@ -69,15 +69,15 @@ fn the_sixteenth_item_with_con_is_d4_and_a_cut_one_d3() {
 }
 
 fn write(fields: &[u64], bytes: &[u8]) -> Result<Vec<u8>, u64> {
-    let (mut out, mut answer) = (vec![0xEE; 1502], vec![7; 34]);
+    let (mut out, mut answer) = (vec![0xEE; 1502], vec![7; 42]);
     let number = crate::write(fields, bytes, &mut out, &mut answer);
     if number != 0 {
-        assert!(out == vec![0xEE; 1502] && answer == [7; 34]);
+        assert!(out == vec![0xEE; 1502] && answer == [7; 42]);
         return Err(number);
     }
     let length = answer[0] as usize;
     assert!(out[length..].iter().all(|octet| *octet == 0xEE));
-    assert_eq!((answer[1..32].iter().sum::<u64>(), &answer[32..]), (0, &[7, 7][..]));
+    assert_eq!((answer[1..40].iter().sum::<u64>(), &answer[40..]), (0, &[7, 7][..]));
     Ok(out[..length].to_vec())
 }
 
@@ -143,9 +143,9 @@ fn the_writer_judges_in_the_order_of_the_paper() {
     for (kind, set, number) in cases {
         assert_eq!(write(&words(kind, set), &[0; 10]), Err(number), "{kind} {set:?}");
     }
-    assert_eq!(crate::write(&[0; 87], &[], &mut [0; 1500], &mut [0; 32]), 1);
-    assert_eq!(crate::write(&[0; 88], &[], &mut [0; 1499], &mut [0; 32]), 1);
-    assert_eq!(crate::write(&[0; 88], &[], &mut [0; 1500], &mut [0; 31]), 1);
+    assert_eq!(crate::write(&[0; 87], &[], &mut [0; 1500], &mut [0; 40]), 1);
+    assert_eq!(crate::write(&[0; 88], &[], &mut [0; 1499], &mut [0; 40]), 1);
+    assert_eq!(crate::write(&[0; 88], &[], &mut [0; 1500], &mut [0; 39]), 1);
 }
 
 #[test]
@@ -159,7 +159,7 @@ fn a_value_too_wide_or_in_a_word_that_the_type_has_not_is_d1() {
         (1, &[(16, 11)]),
         (1, &[(16, 10), (17, 1)]),
         (1, &[(16, u64::MAX), (17, 1)]),
-        (1, &[(18, 1)]),
+        (1, &[(20, 1)]),
         (1, &[(23, 1)]),
         (1, &[(24, 1)]),
         (1, &[(87, 1)]),

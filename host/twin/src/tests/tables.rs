@@ -99,7 +99,7 @@ fn a_wrong_size_is_refused_with_1() {
         |end| end.store.truncate(2047),
         |end| end.store.push(0),
         |end| end.out.truncate(1027),
-        |end| end.answer.truncate(31),
+        |end| end.answer.truncate(39),
     ];
     for (case, damage) in damage.iter().enumerate() {
         let mut end = end.clone();
@@ -145,7 +145,7 @@ fn a_header_field_out_of_range_is_refused_with_1() {
 
 #[test]
 fn a_record_field_out_of_range_is_refused_with_1() {
-    let bad: [(usize, &[u8]); 13] = [
+    let bad: [(usize, &[u8]); 18] = [
         (0, &[12]),
         (0, &[0]),
         (2, &32_768_u16.to_le_bytes()),
@@ -158,6 +158,11 @@ fn a_record_field_out_of_range_is_refused_with_1() {
         (20, &86_400_001_u32.to_le_bytes()),
         (20, &[0xFF; 4]),
         (24, &[1]),
+        (24, &[5]),
+        (24, &[16]),
+        (24, &[255]),
+        (25, &[6]),
+        (40, &[6]),
         (47, &[1]),
     ];
     for (from, octets) in bad {
@@ -185,6 +190,7 @@ fn the_largest_fields_are_well_formed() {
         record[8..16].copy_from_slice(&1_000_086_400_000_u64.to_le_bytes());
         record[16..20].copy_from_slice(&1024_u32.to_le_bytes());
         record[20..24].copy_from_slice(&86_400_000_u32.to_le_bytes());
+        record[24] = 15;
         end.cache(255, 32_767);
         assert_eq!(end.timer(1_000_000_000_000).row, Row::TimerNoneDue, "state {state}");
     }
@@ -192,7 +198,7 @@ fn the_largest_fields_are_well_formed() {
 
 #[test]
 fn a_free_record_must_be_zero_to_its_last_octet() {
-    for octet in [1, 48, 175] {
+    for octet in [1, 24, 48, 175] {
         let mut end = End::new(1, 0);
         end.record(0)[octet] = 1;
         assert_eq!(end.timer(0).number, 1, "octet {octet}");
