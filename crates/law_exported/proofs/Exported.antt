@@ -84,7 +84,7 @@ calls-run w (Calls.salvaged {t = t} calls list) =
     rw (salvage-same t list (formed-through w run)) run
 calls-run w (Calls.called calls x k table store) = call-run x k (calls-run w calls) table store
 
--- salvage within such calls leaves the table
+-- wtp_salvage within such calls leaves the table
 pub salvage-leaves : {t₀ s₀ t s : List ℕ} {h : List Entry} → WellFormed t₀ → Calls t₀ s₀ t s h → (list : List ℕ) → tableSalvaged t list ≡ t
 salvage-leaves {t = t} w calls list = salvage-same t list (formed-through w (calls-run w calls))
 
@@ -113,7 +113,7 @@ follows (Session.made old store settings first made calls) =
 pub exported-demand-3 : {max : ℕ} {t s : List ℕ} {h : List Entry} → Session max t s h → Demand3 fresh max t h
 exported-demand-3 {max} session = let f = follows session in demand-3-from fresh max (f .inv) (cells-of-none fresh (f .table₀) (f .store₀) (f .no-record)) (f .run)
 
--- DEMAND 3 AFTER SALVAGE: counted afresh, with the live records that salvage left, and what the store holds for them, as the start
+-- DEMAND 3 AFTER SALVAGE: counted afresh, with the live records that wtp_salvage left, and what the store holds for them, as the start
 pub exported-demand-3-salvaged : {t₀ s₀ : List ℕ} {max : ℕ} {t s : List ℕ} {h : List Entry} → SalvagedSession t₀ s₀ max t s h → Demand3 (startOf t₀ s₀) max t h
 exported-demand-3-salvaged {t₀} {s₀} {max} {t} {s} {h} (SalvagedSession.salvaged old list accepted is calls) =
     let says : Salvaged old list t₀ (listSalvaged old list) = rw is at (salvage-says old list accepted) in

@@ -56,6 +56,9 @@ use Rattle.wtp.proofs.wtp_deadline.Kinds as deadline-kinds
 use Rattle.wtp.proofs.wtp_fire as fire
 use Rattle.wtp.proofs.wtp_fire.Reads as fire-reads
 use Rattle.wtp.proofs.wtp_fire.Kinds as fire-kinds
+use Rattle.wtp.proofs.wtp_salvage as salvage
+use Rattle.wtp.proofs.wtp_salvage.Reads as salvage-reads
+use Rattle.wtp.proofs.wtp_salvage.Kinds as salvage-kinds
 
 -- two things that are one third are the same
 same : {A : Type 0} {a b c : A} → a ≡ c → b ≡ c → a ≡ b
@@ -144,3 +147,8 @@ deadline-one κs a r r' x y k m = (same (k .0) (m .0), same (k .1) (m .1))
 pub fire-one : (κs : Lfts 4) (a : ArgsD fire.signature κs) (r r' : ResD fire.signature κs) (x y : AtExit (endedOf 4 fire-kinds.ps fire-kinds.r) κs) → fire-reads.Learnt κs a r x → fire-reads.Learnt κs a r' y
     → (r ≡ r') × ((now (x .0)) ≡ (now (y .0))) × ((now (x .1 .0)) ≡ (now (y .1 .0))) × ((now (x .1 .1 .0)) ≡ (now (y .1 .1 .0))) × ((now (x .1 .1 .1 .0)) ≡ (now (y .1 .1 .1 .0)))
 fire-one κs a r r' x y k m = parts (same k m)
+
+-- `wtp_salvage`: result, table and list
+pub salvage-one : (κs : Lfts 2) (a : ArgsD salvage.signature κs) (r r' : ResD salvage.signature κs) (x y : AtExit (endedOf 2 salvage-kinds.ps salvage-kinds.r) κs) → salvage-reads.Learnt κs a r x → salvage-reads.Learnt κs a r' y
+    → (r ≡ r') × ((now (x .0)) ≡ (now (y .0))) × ((now (x .1 .0)) ≡ (now (y .1 .0)))
+salvage-one κs a r r' x y k m = (same (k .0) (m .0), same (k .1) (m .1), same (k .2) (m .2))

@@ -41,7 +41,7 @@ pub data Calls (t₀ s₀ : List ℕ) : List ℕ → List ℕ → List Entry →
   -- wtp_fresh was refused
   refused : {t s : List ℕ} {h : List Entry} → Calls t₀ s₀ t s h → (settings : List ℕ) (first : ℕ) → (freshAnswer (length t) settings first ≡ Made → ⊥)
       → Calls t₀ s₀ (tableAfterFresh (freshAnswer (length t) settings first) t settings first) s h
-  -- salvage, accepted or not: of a table that nothing has damaged
+  -- wtp_salvage, accepted or not: of a table that nothing has damaged
   salvaged : {t s : List ℕ} {h : List Entry} → Calls t₀ s₀ t s h → (list : List ℕ) → Calls t₀ s₀ (tableSalvaged t list) s h
   -- an engine call
   called : {t s : List ℕ} {h : List Entry} → Calls t₀ s₀ t s h → (x : Exported) → Keeps x → x .lent .table ≡ t → x .lent .store ≡ s
@@ -52,6 +52,6 @@ pub data Session : ℕ → List ℕ → List ℕ → List Entry → Type 0 where
   -- wtp_fresh made the table, whatever it and the store held before: a new history begins
   made : (old store settings : List ℕ) (first : ℕ) → freshAnswer (length old) settings first ≡ Made → {t s : List ℕ} {h : List Entry} → Calls (tableAfterFresh Made old settings first) store t s h → Session (getD settings 0 0) t s h
 
--- calls from an accepted salvage on (02, L12), whatever octets and words it was lent: what it left of the table, and the store, are the start of a new history
+-- calls from an accepted wtp_salvage on (02, L12), whatever octets and words it was lent: what it left of the table, and the store, are the start of a new history
 pub data SalvagedSession (t₀ s₀ : List ℕ) : ℕ → List ℕ → List ℕ → List Entry → Type 0 where
   salvaged : (old list : List ℕ) → salvageNumber old list ≡ 0 → tableSalvaged old list ≡ t₀ → {t s : List ℕ} {h : List Entry} → Calls t₀ s₀ t s h → SalvagedSession t₀ s₀ (settingsOf old .«rcr_max») t s h

@@ -10,6 +10,7 @@ ghost use Rattle.c_codec.specs.Calls.{readNumber, fieldsAfter, writeNumber, wri
 ghost use Rattle.c_parts.specs.Parts.{readPartNumber, readPartFields, dataNumber, dataOutput};
 ghost use Rattle.call_plans.specs.Calls.{Call};
 ghost use Rattle.call_deadline.specs.Deadlines.{deadlineNumber, dueAfter};
+ghost use Rattle.table_salvage.specs.Salvage.{salvageNumber, tableSalvaged, listSalvaged};
 ghost use Rattle.wtp.specs.Engine.{called, calledBy};
 use base_numbers::Refusal;
 
@@ -264,4 +265,12 @@ pub extern "C" fn wtp_fire(
     }
     let r = call_engine::fire_named(table, store, out, &mut *answer, time, role, peer, tid);
     c_answers::tell(answer, r, step_arrivals::no_item())
+}
+
+// Makes a damaged table well formed: zeroes the places that can't stay, and lists them in 97 words with their reasons. It takes no time and is no entry of a history.
+#[no_mangle]
+pub extern "C" fn wtp_salvage(table: &mut [u8], list: &mut [u64]) -> u64
+    ensures { λ r. ⌜ (r ≡ salvageNumber (now (table .entry)) (now (list .entry))) × (now (table .exit) ≡ tableSalvaged (now (table .entry)) (now (list .entry))) × (now (list .exit) ≡ listSalvaged (now (table .entry)) (now (list .entry))) ⌝ }
+{
+    table_salvage::salvage(table, list)
 }
