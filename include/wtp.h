@@ -2,9 +2,9 @@
  *
  * A slice is a pointer and then a count of its elements. A pointer is never null, also where the count is 0, and the
  * buffers lent to one call don't overlap. That is all a caller owes: every value is otherwise allowed.
- * The result is 0 where the call was accepted, 1 to 11 a refusal with its number of document 01 (higher ones are kept
- * for document 02), and 101 to 107 for D1 to D7 of a malformed PDU. A call that was not accepted changes no lent byte
- * and no lent word.
+ * The result is 0 where the call was accepted, 1 to 11 and 15 a refusal with its number of documents 01 and 02 (the others up
+ * to 16 are kept for document 02), and 101 to 107 for D1 to D7 of a malformed PDU. A call that was not accepted changes no
+ * lent byte and no lent word.
  */
 #ifndef WTP_H
 #define WTP_H
@@ -29,6 +29,7 @@ extern "C" {
 #define WTP_NOT_ALLOWED 9    /* the record's state doesn't allow the call; wtp_fire: the record isn't due */
 #define WTP_WRONG_SETTING 10 /* a setting or the first TID is out of range */
 #define WTP_WRONG_LENGTH 11  /* a length outside 1 to 1,500, a datagram that can't be separated, no PDU to join or no such part */
+#define WTP_WRONG_HEADER 15  /* wtp_salvage: a field of the table outside its records is out of range */
 #define WTP_D1 101           /* the fixed header is cut short; in writing, a value too wide for its place */
 #define WTP_D2 102           /* the type is 0 or over 7 */
 #define WTP_D3 103           /* an item runs past the end */
@@ -43,6 +44,7 @@ extern "C" {
 #define WTP_ANSWER 40   /* words of an answer, at least */
 #define WTP_PART 3      /* words of a part */
 #define WTP_DUE 5       /* words of a deadline, at least */
+#define WTP_SALVAGED 97 /* words of a list of salvaged places, at least */
 #define WTP_CELL 1024   /* octets of the store for each record of the table; data is as long at most */
 #define WTP_EXIT 128    /* octets of exit information, at most; none is exit information of length 0 */
 #define WTP_SENDING 1028 /* octets of the output that the engine's seven calls ask for, at least */
@@ -102,6 +104,18 @@ enum {
     WTP_DUE_AT,      /* the earliest deadline, in milliseconds */
     WTP_DUE_ROLE, WTP_DUE_PEER, WTP_DUE_TID /* its record, for wtp_fire */
 };
+
+/* Words of a list of salvaged places; those past its places are 0. */
+enum {
+    WTP_SALVAGED_PLACES = 0, /* how many places were changed */
+    WTP_SALVAGED_PLACE,      /* place k has the words WTP_SALVAGED_PLACE + 2k and WTP_SALVAGED_REASON + 2k; places count from 0 and rise */
+    WTP_SALVAGED_REASON
+};
+
+/* Why a place was changed: the first of these that holds. */
+#define WTP_SALVAGED_OUT_OF_RANGE 1 /* a live record, or one of an unknown state, had a field out of range */
+#define WTP_SALVAGED_NOT_ZERO 2     /* a free record wasn't zero */
+#define WTP_SALVAGED_SAME_NAME 3    /* it shared role, peer and TID with a live record of a lower place */
 
 /* Words of a PDU. */
 enum {
@@ -193,6 +207,13 @@ uint64_t wtp_deadline(const uint8_t *table, size_t table_len, uint64_t *due, siz
  * 1, 2; 3: peer; 8: no such record; 9: it has no deadline, or a later one. */
 uint64_t wtp_fire(uint8_t *table, size_t table_len, uint8_t *store, size_t store_len, uint8_t *out, size_t out_len,
                   uint64_t *answer, size_t answer_len, uint64_t now, uint64_t role, uint64_t peer, uint64_t tid);
+
+/* Salvages a table that a brown-out may have damaged, so that it is well formed: zeroes each record that has a field out of range or
+ * is free and not zero, and then, of live records that share role, peer and TID, all but the one of the lowest place. The first 97
+ * words of `list` say which places it zeroed, and why. Everything else stays: the header, every other record, and the store, which
+ * it isn't lent. Nothing is sent or shown for a record that is freed. A well-formed table comes back as it was, with an empty list.
+ * 1: not the size of a table, or fewer than 97 words; 15: a field outside the records is out of range, whatever the records hold. */
+uint64_t wtp_salvage(uint8_t *table, size_t table_len, uint64_t *list, size_t list_len);
 
 /* Reads the PDU in `pdu` into the first 88 words of `fields`. Starts count from the PDU's first octet.
  * 1: fewer than 88 words; 11: length outside 1 to 1,500; then D2, D1, D5, D6, D3 or D4, D7. */

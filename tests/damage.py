@@ -1,7 +1,7 @@
 #!/usr/bin/env python3
-"""Writes how many damaged tables must be refused: tests/damage/expected.txt.
+"""Writes how many damaged tables must be refused, tests/damage/expected.txt, and what salvage must make of them, tests/damage/salvaged.txt.
 
-An independent reading of document 01's "well formed" (document 02 as far as it has landed: L2, L6, L4) over the layout of docs/TABLE.md; nothing
+An independent reading of document 01's "well formed" (document 02 as far as it has landed: L2, L6, L4, L12) over the layout of docs/TABLE.md; nothing
 here is taken from the definitions or the code.
 usage: tests/damage.py [--check]
 """
@@ -42,8 +42,12 @@ def name(r):
     return (0 if r[0] <= 4 else 1, r[1], number(r[2:4]))
 
 
+def records_of(t):
+    return [bytes(t[HEADER + RECORD * i:HEADER + RECORD * (i + 1)]) for i in range(COUNT)]
+
+
 def well_formed(t):
-    records = [bytes(t[HEADER + RECORD * i:HEADER + RECORD * (i + 1)]) for i in range(COUNT)]
+    records = records_of(t)
     live = [name(r) for r in records if r[0]]
     return header_ok(bytes(t[:HEADER])) and all(record_ok(r, t[10], t[11]) for r in records) and len(set(live)) == len(live)
 
@@ -69,6 +73,55 @@ def damaged(t):
     return ["octets %d to %d: %d changes refused" % (a, b, sum(counts[a:b])) for a, b in zip(FIELDS, FIELDS[1:])]
 
 
+@functools.lru_cache
+def salvaged(records, rcr_max, aec_max):
+    """02, L12: the places that salvage changes, with their reasons, and what is left of the records."""
+    reasons, kept = {}, []
+    for place, r in enumerate(records):
+        if not record_ok(r, rcr_max, aec_max):
+            reasons[place] = 1 if r[0] else 2
+    for place, r in enumerate(records):
+        if r[0] and place not in reasons:
+            if name(r) in kept:
+                reasons[place] = 3
+            kept.append(name(r))
+    left = [r for place, r in enumerate(records) if place not in reasons]
+    said = ", ".join("place %d reason %d" % (place, reasons[place]) for place in sorted(reasons)) or "nothing"
+    return said, sum(r[0] != 0 for r in left), sum(map(sum, left))
+
+
+def all_salvaged(t):
+    """For each field: how often each is said of the table with one octet changed, how many live records are left, and the sum of the octets of all records that are left."""
+    lines = []
+    for a, b in zip(FIELDS, FIELDS[1:]):
+        counts, live, octets = {}, 0, 0
+        for at in range(a, b):
+            was = t[at]
+            for value in set(range(256)) - {was}:
+                t[at] = value
+                # 15 is the header's test by itself, whatever the records hold.
+                said, left, left_octets = salvaged(tuple(records_of(t)), t[10], t[11]) if header_ok(bytes(t[:HEADER])) else ("refused 15", 0, 0)
+                counts[said], live, octets = counts.get(said, 0) + 1, live + left, octets + left_octets
+            t[at] = was
+        lines.append("octets %d to %d: %s; %d live records left, octets %d" % (a, b, "; ".join("%d %s" % (counts[said], said) for said in sorted(counts)), live, octets))
+    return lines
+
+
+def salvage_cases():
+    """Two live records; two of one name, the first with exit information; one out of range before one that is free and not zero; two of one name, the first out of range."""
+    t = fresh()
+    t[HEADER], t[HEADER + RECORD], t[HEADER + RECORD + 1] = 2, 8, 1
+    yield "an initiator and a responder", t
+    t[HEADER + RECORD], t[HEADER + RECORD + 1], t[HEADER + 7] = 3, 0, 2
+    t[HEADER + 48:HEADER + 52] = bytes([170, 187, 204, 221])
+    yield "two records of one name", t
+    t[HEADER + 4] = 5
+    yield "the same, RCR of the first over RCR_MAX", t
+    t[HEADER + RECORD] = 0
+    t[HEADER + 2 * RECORD - 1] = 1
+    yield "the same, the second free and not zero", t
+
+
 table = fresh()
 text = ["a fresh table of two records"] + damaged(table)
 table[HEADER], table[HEADER + RECORD], table[HEADER + RECORD + 1] = 2, 2, 1
@@ -80,9 +133,14 @@ table[HEADER + 20:HEADER + 24] = (86400000).to_bytes(4, "little")
 text += ["the same with a waiting limit of 1, the first record with the longest in force"] + damaged(table)
 table[HEADER + 24], table[HEADER + RECORD + 24] = 6, 15
 text += ["the same with the identity of an unknown item in both records"] + damaged(table)
-text = "\n".join(text) + "\n"
-path = pathlib.Path(__file__).resolve().parent / "damage" / "expected.txt"
+salvaged_text = ["a fresh table of two records"] + all_salvaged(fresh())
+for title, damaged_table in salvage_cases():
+    salvaged_text += [title] + all_salvaged(damaged_table)
+folder = pathlib.Path(__file__).resolve().parent / "damage"
+files = {"expected.txt": "\n".join(text) + "\n", "salvaged.txt": "\n".join(salvaged_text) + "\n"}
 if "--check" in sys.argv[1:]:
-    sys.exit(0 if path.read_text() == text else "damage: expected.txt differs from document 01 as read here")
-path.write_text(text)
-print("%d lines" % text.count("\n"))
+    wrong = [file for file, octets in files.items() if (folder / file).read_text() != octets]
+    sys.exit("damage: " + ", ".join(wrong) + " differ from document 01 as read here" if wrong else 0)
+for file, octets in files.items():
+    (folder / file).write_text(octets)
+print("%d lines" % sum(octets.count("\n") for octets in files.values()))

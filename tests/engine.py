@@ -1,4 +1,4 @@
-"""An engine read from document 01 ("Numbers given back", "TIDs", "Events"), from document 02 as far as it has landed (L3, L2, L6, L4), from
+"""An engine read from document 01 ("Numbers given back", "TIDs", "Events"), from document 02 as far as it has landed (L3, L2, L6, L4, L12), from
 the C interface's words and from docs/TABLE.md, and not from the definitions: a second opinion on what each call gives. It notes in `reached`
 each row, test and refusal that a call meets.
 """
@@ -13,6 +13,8 @@ ROLES = ["initiator", "responder"]
 STATES = ["Free", "IResultWait1", "IResultWait2", "IResultRespWait", "IWaitTimeout", "RTidokWait1", "RTidokWait2",
           "RInvokeRespWait1", "RInvokeRespWait2", "RResultWait", "RResultRespWait", "RWaitTimeout"]
 CLASS = {"IResultWait1": 1, "RTidokWait1": 1, "RInvokeRespWait1": 1, "RWaitTimeout": 1}
+# 02, L12: why a place is salvaged
+OUT_OF_RANGE, NOT_ZERO, SAME_NAME = 1, 2, 3
 reached = set()
 
 
@@ -86,29 +88,49 @@ def is_known(identity):
     return identity < 6
 
 
-def well_formed(t):
-    """01: all fields in range, free records zero, no two live records with the same role, peer and TID."""
+def header_ok(t):
+    """01: all fields outside the records in range."""
     if number(t[0:8]) > BOUND or number(t[8:10]) > 32767 or t[10] > 8 or t[11] > 8 or t[TIDNEW_DUE] > 1 or any(t[TIDNEW_DUE + 1:CACHE]):
         return False
     if not all(1 <= number(t[at:at + 4]) <= LONGEST for at in range(12, 92, 4)) or not limit_ok(t[MODES], number(t[WAITING_LIMIT:MODES])):
         return False
-    if any(number(t[at:at + 2]) > 32768 for at in range(CACHE, HEADER, 2)):
+    return not any(number(t[at:at + 2]) > 32768 for at in range(CACHE, HEADER, 2))
+
+
+def record_wrong(w, t):
+    """01: what is wrong with a record by itself: a free one isn't zero, or one that isn't free has a field out of range."""
+    if w[0] == 0:
+        return NOT_ZERO if any(w) else None
+    if not fields_ok(w, t):
+        return OUT_OF_RANGE
+    return None
+
+
+def fields_ok(w, t):
+    """01: all fields of a record that isn't free in range, RCR and AEC by the table's own maxima."""
+    if w[0] > 11 or number(w[2:4]) > 32767 or w[4] > t[10] or w[5] > t[11] or w[6] > (31 if w[0] <= 4 else 15) or w[7] > 128 or any(w[SPARE:EXIT]):
         return False
-    names = []
-    for at in range(HEADER, len(t), RECORD):
-        w = t[at:at + RECORD]
-        if w[0] == 0:
-            if any(w):
-                return False
-            continue
-        if w[0] > 11 or number(w[2:4]) > 32767 or w[4] > t[10] or w[5] > t[11] or w[6] > (31 if w[0] <= 4 else 15) or w[7] > 128 or any(w[SPARE:EXIT]):
-            return False
-        if w[UNKNOWN] and (is_known(w[UNKNOWN]) or w[UNKNOWN] > 15):
-            return False
-        if number(w[8:16]) > BOUND + LONGEST or number(w[16:20]) > CELL or number(w[LIMIT:UNKNOWN]) > LONGEST:
-            return False
-        names.append((w[0] <= 4, w[1], number(w[2:4])))
-    return len(set(names)) == len(names)
+    if w[UNKNOWN] and (is_known(w[UNKNOWN]) or w[UNKNOWN] > 15):
+        return False
+    if number(w[8:16]) > BOUND + LONGEST or number(w[16:20]) > CELL or number(w[LIMIT:UNKNOWN]) > LONGEST:
+        return False
+    return True
+
+
+def octets_of(t, place):
+    return t[HEADER + RECORD * place:HEADER + RECORD * (place + 1)]
+
+
+def name_of(w):
+    """Role, peer and TID of a live record that has its fields in range."""
+    return w[0] <= 4, w[1], number(w[2:4])
+
+
+def well_formed(t):
+    """01: all fields in range, free records zero, no two live records with the same role, peer and TID."""
+    records = [octets_of(t, k) for k in range((len(t) - HEADER) // RECORD)]
+    names = [name_of(w) for w in records if w[0]]
+    return header_ok(t) and not any(record_wrong(w, t) for w in records) and len(set(names)) == len(names)
 
 
 # ---- PDUs, 01 "Bytes on the air"
@@ -599,7 +621,11 @@ def sizes_wrong(end):
 def changed_records(before, after):
     """Place, state before and state after of each record whose octets differ."""
     places = enumerate(range(HEADER, len(before), RECORD))
-    return [(k, STATES[before[at]], STATES[after[at]]) for k, at in places if before[at:at + RECORD] != after[at:at + RECORD]]
+    return [(k, state_name(before[at]), state_name(after[at])) for k, at in places if before[at:at + RECORD] != after[at:at + RECORD]]
+
+
+def state_name(octet):
+    return STATES[octet] if octet < len(STATES) else "state %d" % octet
 
 
 def call(name, end, time, tests, event):
@@ -712,6 +738,31 @@ def fire(end, time, role, peer, tid):
         r = Table(end.octets[:lent(end, 0)]).named(role, peer, tid)
         reached.add(("fire", 9, "a later deadline" if r.deadline else "no deadline"))
     return n, c
+
+
+def salvage(end, words):
+    """02, L12: frees each record that has a field out of range, zeroes free ones that aren't zero, and then, where live ones share role, peer and
+    TID, keeps the lowest place. It is lent a table and a list of so many words; it gives each place that it changed with its first reason."""
+    t = end.octets[:lent(end, 0)]
+    wrong = "size" if table_size_wrong(end) else "words" if words < 97 else ""
+    if wrong:
+        reached.add(("salvage", 1, wrong))
+        return 1, [], []
+    records = [octets_of(t, k) for k in range((len(t) - HEADER) // RECORD)]
+    reasons = {k: record_wrong(w, t) for k, w in enumerate(records) if record_wrong(w, t)}
+    if not header_ok(t):
+        reached.add(("salvage", 15, "records damaged too" if reasons else "records sound"))
+        return 15, [], []
+    kept = set()
+    for k, w in enumerate(records):
+        if w[0] and k not in reasons:
+            if name_of(w) in kept:
+                reasons[k] = SAME_NAME
+            kept.add(name_of(w))
+    reached.update(("salvage", 0, reason) for reason in reasons.values() or ["nothing"])
+    for k in reasons:
+        end.octets[HEADER + RECORD * k:HEADER + RECORD * (k + 1)] = bytes(RECORD)
+    return 0, sorted(reasons.items()), changed_records(t, end.octets[:len(t)])
 
 
 def make_fresh(end, first):

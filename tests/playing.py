@@ -1,5 +1,6 @@
 """The commands of a scenario, and the lines that the player must print for them: what the engine read from document 01 gives, in words."""
-from engine import (NO_DATA, ROLES, Table, deadline, ends, fire, lend, make_fresh, primitive, reached, receive, request, settings, table_bytes, timer)
+from engine import (NO_DATA, ROLES, Table, deadline, ends, fire, lend, make_fresh, primitive, reached, receive, request, salvage, settings, table_bytes,
+                    timer)
 from notation import text_of
 
 
@@ -20,9 +21,9 @@ def shown_text(end, s, words):
     return text + (" " + text_of((end.store if source else s)[start:start + length]) if length else "")
 
 
-def changed_text(c):
-    """The record that the call changed: its place, and its state before and after."""
-    return " {%s}" % ", ".join("%d: %s -> %s" % record for record in c.changed) if c.changed else ""
+def changed_text(changed):
+    """The records that a call changed: the place of each, and its state before and after."""
+    return " {%s}" % ", ".join("%d: %s -> %s" % record for record in changed) if changed else ""
 
 
 def answer_text(end, c, s=b"", name=""):
@@ -68,7 +69,7 @@ def add_call(line, end, result, has, s=b"", name=""):
     n, c = result
     given = answer_text(end, c, s, name) if n == 0 else ""
     assert c is None or len(c.changed) <= 1, "%r changes more than one record" % line
-    add(line, outcome(n) + (changed_text(c) if c else "") + given, has, outcome(n) + (c.met if c else "") + given)
+    add(line, outcome(n) + (changed_text(c.changed) if c else "") + given, has, outcome(n) + (c.met if c else "") + given)
 
 
 def title(text):
@@ -103,6 +104,22 @@ def put(e, at, value):
     was = ends[e].octets[at]
     ends[e].octets[at] = value
     add("put %d %d %d" % (e, at, value), ": was %d" % was)
+
+
+def copy(e, place, to):
+    """Copies the octets of one record over those of another."""
+    ends[e].octets[record_at(to):record_at(to + 1)] = ends[e].octets[record_at(place):record_at(place + 1)]
+    add("copy %d %d %d" % (e, place, to), "")
+
+
+def fill(e, place, value):
+    """Makes every octet of a record this one."""
+    ends[e].octets[record_at(place):record_at(place + 1)] = bytes([value]) * (record_at(1) - record_at(0))
+    add("fill %d %d %d" % (e, place, value), "")
+
+
+def record_at(place):
+    return table_bytes(1) + (table_bytes(2) - table_bytes(1)) * (place - 1)
 
 
 def req(e, time, peer, cls, up=0, d="", has=None):
@@ -146,6 +163,14 @@ def due(e, has=None):
 
 def fir(e, time, role, peer, tid, has=None):
     add_call("fir %d %d %d %d %d" % (e, time, role, peer, tid), ends[e], fire(ends[e], time, role, peer, tid), has, name="fire")
+
+
+def sal(e, words=98, has=None):
+    """Salvages the table; so many words are lent for the list. What it lists are the records that it changed."""
+    n, listed, changed = salvage(ends[e], words)
+    assert [place for place, _ in listed] == [place for place, _, _ in changed]
+    told = "; %d salvaged" % len(listed) + "".join(", place %d reason %d" % entry for entry in listed)
+    add("sal %d %d" % (e, words), outcome(n) + changed_text(changed) + ("" if n else told), has)
 
 
 def fires(e, role, has=None):

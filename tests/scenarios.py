@@ -11,7 +11,7 @@ import pathlib
 import sys
 
 from engine import BOUND, CLASS, ROLES, STATES, Table, ends, reached, table_bytes
-from playing import (G, R, abo, ans, due, edge, expected, fir, fires, fresh, get, lends, lines, look, octets, pair, put, rcv, req, res, sets, size, tim, title, titles)
+from playing import (G, R, abo, ans, copy, due, edge, expected, fill, fir, fires, fresh, get, lends, lines, look, octets, pair, put, rcv, record_at, req, res, sal, sets, size, tim, title, titles)
 
 
 # ---- whole transactions between the two ends
@@ -1065,6 +1065,121 @@ def identities_made_up():
     put(R, IDENTITY, 6), every_call("refused 1"), due(R, has="refused 1"), put(R, IDENTITY, 0), tim(R, 10, has="; none due")
 
 
+def six_places():
+    """The reading's example: initiators 7/5 and 7/6 at places 0 and 1, responders 7/5 and 7/6 at 2 and 3, and two free places."""
+    as_read(6, 5)
+    req(R, 10, 7, 2, 0, "A1"), req(R, 10, 7, 2, 0, "B2"), rcv(R, 10, 7, "0E000502 C3"), rcv(R, 10, 7, "0E000602 D4"), sal(R, has="; 0 salvaged")
+
+
+def salvaged(*listed):
+    """The table was refused with 1; it is salvaged, once for all, and lists these places."""
+    due(R, has="refused 1"), sal(R, has="; %d salvaged%s" % (len(listed), "".join(", place %d reason %d" % entry for entry in listed)))
+    sal(R, has=": ok; 0 salvaged"), due(R, has=": ok"), look(R)
+
+
+def salvage():
+    title("02, L12: the reading's examples with six places. Copies of place 1 at 4 and 5")
+    six_places()
+    copy(R, 1, 4), copy(R, 1, 5), salvaged((4, 3), (5, 3))
+    title("place 0 overwritten by place 3's octets: the lower place stays, damaged or not")
+    six_places()
+    copy(R, 3, 0), salvaged((3, 3))
+    title("a copy of 2 at 5, and 2 all FFh: a record that is freed doesn't count, so that 5 stays")
+    six_places()
+    copy(R, 2, 5), fill(R, 2, 255), salvaged((2, 1))
+    title("a copy of 1 at 4, place 0 all FFh, one octet of 5 other than its state set: all three reasons, in rising order of place")
+    for at in (1, 2, 4, 7, 15, 19, 23, 24, 47, 48, 175):
+        six_places()
+        copy(R, 1, 4), fill(R, 0, 255), put(R, record_at(5) + at, 1), sal(R, has="; 3 salvaged, place 0 reason 1, place 4 reason 3, place 5 reason 2")
+    title("RCR_MAX or AEC_MAX lowered below a record's counter, itself in range: the record goes with reason 1, and it isn't 15")
+    six_places()
+    tim(R, 160), tim(R, 160), put(R, 10, 0), salvaged((0, 1), (1, 1))
+    six_places()
+    put(R, record_at(2) + 5, 1), put(R, 11, 0), salvaged((2, 1))
+    salvaged_records()
+    salvaged_and_on()
+    salvage_refused()
+
+
+def salvaged_records():
+    title("a record's fields: in range nothing is changed, just out of range the place goes with reason 1; flags and state in every state")
+    edges = [((2, 255), (3, 127), (3, 128)), ((4, 4), (4, 5)), ((5, 2), (5, 3)), ((7, 128), (7, 129)), ((16, 0), (17, 4), (16, 1)), ((47, 0), (47, 1)), ((24, 0), (24, 255))]
+    edges += [tuple(zip(range(8, 16), (10 ** 12 + 86400000).to_bytes(8, "little"))) + ((8, 1),), tuple(zip(range(20, 24), (86400000).to_bytes(4, "little"))) + ((20, 1),)]
+    for state in STATES[1:]:
+        flags = [((6, 15), (6, 31), (6, 32))] if state[0] == "I" else [((6, 15), (6, 16))]
+        for steps in (edges if state in ("IResultWait2", "RTidokWait1") else []) + flags + [((0, 12),)]:
+            e, role = reach(state)
+            for at, value in steps[:-1]:
+                put(e, record_at(0) + at, value)
+            sal(e, has=": ok; 0 salvaged"), put(e, record_at(0) + steps[-1][0], steps[-1][1])
+            sal(e, has="; 1 salvaged, place 0 reason 1"), sal(e, has=": ok; 0 salvaged")
+    title("a record whose state is damaged to another one of its role stays, and one of the other role has another name")
+    as_read(2, 5)
+    req(R, 10, 7, 2), copy(R, 0, 1), put(R, record_at(1), 4), sal(R, has="{1: IWaitTimeout -> Free}; 1 salvaged, place 1 reason 3")
+    copy(R, 0, 1), put(R, record_at(1), 11), put(R, record_at(1) + 6, 0), sal(R, has="; 0 salvaged"), look(R, has="record 1 RWaitTimeout 7/5")
+    for at in (1, 2, 3):
+        as_read(2, 5)
+        req(R, 10, 7, 2), copy(R, 0, 1), put(R, record_at(1) + at, 9), sal(R, has="; 0 salvaged")
+    title("a state damaged to 0 is a free record that isn't zero; one that is free and zero but for its state is live and stays")
+    as_read(2, 5)
+    req(R, 10, 7, 2), put(R, record_at(0), 0), put(R, record_at(1), 1), salvaged((0, 2)), look(R, has="record 1 IResultWait1 0/0 RCR 0 AEC 0 due 0 length 0")
+    title("a full table of 48 records: all of one name, all FFh, all free and not zero")
+    for damage, has in ((lambda k: put(R, record_at(k), 1), "; 47 salvaged, place 1 reason 3"), (lambda k: fill(R, k, 255), "; 48 salvaged, place 0 reason 1"),
+                        (lambda k: put(R, record_at(k) + 175, 7), "; 48 salvaged, place 0 reason 2")):
+        pair(records=48)
+        for k in range(48):
+            damage(k)
+        sal(R, 97, has=has), sal(R, 97, has=": ok; 0 salvaged"), req(R, 10, 5, 1, has="; tid 7")
+
+
+def salvaged_and_on():
+    title("a salvaged table goes on: a record that stays has its cell and its counters, one that was freed is nobody's")
+    six_places()
+    tim(R, 160, has="Resent}; sent 0F000522A1"), fill(R, 1, 255), copy(R, 2, 4), sal(R, has="; 2 salvaged, place 1 reason 1, place 4 reason 3")
+    rcv(R, 170, 7, "168006 DD", has="{Free Result Ignored}"), rcv(R, 170, 7, "1C8006", has="UnknownTidve}; sent 20000602"), abo(R, 170, 0, 7, 6, 1, has="refused 8")
+    tim(R, 320, has="Resent}; sent 0F000522A1; fired initiator 7/5"), rcv(R, 330, 7, "168005 DD", has="ResultConfirms}"), rcv(R, 330, 7, "1C0005", has="Verified2}; invoke responder 7/5 class 2 store 2048+1 C3")
+    req(R, 340, 7, 2, 0, "E5", has="; sent 0E000702E5; tid 7"), look(R, has="record 1 IResultWait2 7/7 RCR 0 AEC 0 due 490 length 1"), rcv(R, 350, 7, "0E000602 D4", has="{RTidokWait2 Invoke Ignored}")
+    title("the name of a record that was freed can be used again, also by a new Invoke and a new request")
+    as_read(2, 5)
+    req(R, 10, 7, 2), put(R, 8, 5), fill(R, 0, 255), salvaged((0, 1)), req(R, 20, 7, 1, has="; tid 5")
+    rcv(G, 10, 7, "0E000502"), rcv(G, 10, 7, "1C0005", has="Verified2}"), put(G, record_at(0), 99), sal(G, has="; 1 salvaged, place 0 reason 1"), look(G, has="last of 7 is 5")
+    rcv(G, 20, 7, "0E000502", has="ToVerify2}"), rcv(G, 30, 7, "1C0005", has="Verified2}; invoke responder 7/5")
+    title("salvage takes no time: the clock stays, and a time that was good before is good after it")
+    as_read(2, 5, **LIMIT)
+    req(R, 1000, 7, 2), rcv(R, 1010, 7, "188005", has="HeldOn}"), fill(R, 1, 1), salvaged_at(1010), look(R, has=": clock 1010, next TID 6, waiting limit 5000; record 0 IResultWait2 7/5 RCR 0 AEC 0 due 6010 limit 5000")
+    tim(R, 1009, has="refused 2"), tim(R, 6010, has="HeldOnWaitEnds}")
+
+
+def salvaged_at(clock):
+    sal(R, has="; 1 salvaged, place 1 reason 1"), look(R, has=": clock %d" % clock)
+
+
+def salvage_refused():
+    title("number 15: each field outside the records just out of range, whatever the records hold; nothing has changed")
+    for records_damaged in (False, True):
+        as_read(2, 5)
+        req(R, 10, 7, 2)
+        if records_damaged:
+            fill(R, 1, 255)
+        for at, value in ((7, 1), (9, 128), (10, 9), (11, 9), (15, 6), (19, 255), (23, 255), (59, 255), (91, 255), (92, 1), (95, 5), (96, 1), (96, 2), (97, 2), (98, 1), (111, 1), (113, 129), (623, 129)):
+            was = ends[R].octets[at]
+            put(R, at, value), sal(R, has="refused 15"), put(R, at, was)
+        sal(R, has="; 1 salvaged, place 1 reason 1" if records_damaged else "; 0 salvaged")
+    title("number 1: a size that is none, or fewer than 97 words, whatever else is wrong; 97 words are enough, and further ones stay")
+    as_read(2, 5)
+    req(R, 10, 7, 2), fill(R, 1, 255)
+    for damaged in (False, True):
+        put(R, 98, int(damaged))
+        for octets_lent in (0, 1, 623, 624, 799, 801, 975, 977, 9248):
+            lends(octets_lent, 0, 0, 0, 0), sal(R, has="refused 1")
+        lends(976, 0, 0, 0, 0)
+        for words in (0, 1, 5, 96):
+            sal(R, words, has="refused 1")
+        if damaged:
+            sal(R, 97, has="refused 15"), sal(R, 98, has="refused 15"), put(R, 98, 0)
+    sal(R, 97, has="; 1 salvaged, place 1 reason 1"), sal(R, 120, has="; 0 salvaged"), fill(R, 1, 255), lends(800, 0, 0, 0, 0), sal(R, has="; 0 salvaged"), lends(), sal(R, has="; 1 salvaged, place 1 reason 1")
+
+
 def refusals():
     title("the fresh-table call: size, then settings and the first TID; 48 records at the most")
     size(0, ": 0"), size(1, ": 800"), size(48, ": 9072"), size(49, ": 0"), size(2 ** 64 - 1, ": 0")
@@ -1266,6 +1381,9 @@ def needed():
     yield from (("deadline", "told", c) for c in ("alone", "later ones", "a tie", "to come", "past", "past the bound"))
     yield from (("deadline", "none", c) for c in ("no live record", "live records"))
     yield from (("deadline", 1, c) for c in ("size", "words", "form"))
+    yield from (("salvage", 1, c) for c in ("size", "words"))
+    yield from (("salvage", 15, c) for c in ("records sound", "records damaged too"))
+    yield from (("salvage", 0, c) for c in ("nothing", 1, 2, 3))
     numbers = {"fresh": (0, 1, 10), "request": (0, 2, 3, 4, 5, 6, 7), "answer": (0, 2, 3, 4, 8, 9), "result": (0, 2, 3, 4, 8, 9), "abort": (0, 2, 3, 8, 9), "receive": (0, 2, 3, 11), "timer": (0, 2),
                "fire": (0, 2, 3, 8, 9)}
     yield from ((name, n, "") for name, list_ in numbers.items() for n in list_)
@@ -1298,6 +1416,7 @@ timers()
 timer_in_two()
 waiting_limit()
 unknown_items()
+salvage()
 refusals()
 mixups()
 missed = [key for key in needed() if key not in reached]

@@ -5,7 +5,7 @@
 #include "calls.h"
 #include "painted.h"
 
-#define CALLS 28 /* at most */
+#define CALLS 29 /* at most */
 
 struct lent lent;
 int rows_shown;
@@ -74,6 +74,11 @@ void fire(uint64_t now, uint64_t tid)
 void deadline(void)
 {
     READY(wtp_deadline, AT(lent.table), wtp_table_bytes(lent.records), AT(lent.words), lent.words_len);
+}
+
+void salvage(void)
+{
+    READY(wtp_salvage, AT(lent.table), wtp_table_bytes(lent.records), AT(lent.list), lent.list_len);
 }
 
 void read_pdu(const struct octets *pdu)

@@ -19,8 +19,8 @@ struct octets {
 /* What is lent, and how many octets and words of it. */
 extern struct lent {
     uint8_t table[16384], store[RECORDS * WTP_CELL], out[WTP_OUTPUT];
-    uint64_t answer[WTP_ANSWER], words[WTP_FIELDS];
-    size_t records, answer_len, words_len;
+    uint64_t answer[WTP_ANSWER], words[WTP_FIELDS], list[WTP_SALVAGED];
+    size_t records, answer_len, words_len, list_len;
     uint8_t book[8192], frame[RDS_OUTPUT]; /* of the Reliable Data Service, as the words that follow */
     uint64_t told[RDS_FIELDS];
 } lent;
@@ -43,6 +43,7 @@ void receive(uint64_t now, uint64_t peer, const struct octets *pdu);
 void timer(uint64_t now);
 void fire(uint64_t now, uint64_t tid); /* a record of an initiator */
 void deadline(void);
+void salvage(void);
 void read_pdu(const struct octets *pdu);
 void write_pdu(const uint64_t *fields, size_t fields_len, const struct octets *bytes);
 void separate(const struct octets *datagram, uint64_t k);

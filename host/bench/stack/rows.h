@@ -15,6 +15,7 @@ void codec_rows(void);
 void user_rows(void);    /* request, answer, result, abort */
 void receive_rows(void);
 void timer_rows(void);
+void salvage_rows(void);
 void rds_rows(void);     /* of librds.a, for which no bound is asked */
 
 #endif

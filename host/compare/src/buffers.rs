@@ -3,16 +3,16 @@
 use crate::calls::Sizes;
 use kit::layout;
 
-/// Octets past the output that the writer asks for, and words past the fields.
+/// Octets past the output that the writer asks for, and words past the longest that are lent.
 const OUT: usize = wtp::ffi::OUTPUT + 4;
-const WORDS: usize = wtp::ffi::FIELDS + 4;
+const WORDS: usize = wtp::ffi::SALVAGED + 4;
 
 #[derive(Clone, Default)]
 pub struct Buffers {
     pub table: Vec<u8>,
     pub store: Vec<u8>,
     pub out: Vec<u8>,
-    /// Answer, deadline, fields or part.
+    /// Answer, deadline, list, fields or part.
     pub words: Vec<u64>,
 }
 

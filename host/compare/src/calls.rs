@@ -22,6 +22,7 @@ pub enum Kind {
     Receive { now: u64, peer: u64 },
     Timer { now: u64 },
     Deadline,
+    Salvage,
     Fire { now: u64, of: Name },
     Read,
     Write,
@@ -31,7 +32,7 @@ pub enum Kind {
     Data { k: u64 },
 }
 
-/// How many octets or words of each buffer are lent; `words` are those of answer, deadline, fields or part.
+/// How many octets or words of each buffer are lent; `words` are those of answer, deadline, list, fields or part.
 #[derive(Clone, Copy, Debug, Default, PartialEq, Eq)]
 pub struct Sizes {
     pub table: usize,
@@ -92,6 +93,7 @@ impl fmt::Display for Kind {
             Kind::Receive { now, peer } => write!(f, "receive: now {now}, peer {peer}"),
             Kind::Timer { now } => write!(f, "timer: now {now}"),
             Kind::Deadline => write!(f, "deadline"),
+            Kind::Salvage => write!(f, "salvage"),
             Kind::Fire { now, of } => write!(f, "fire: now {now}, {of}"),
             Kind::Read => write!(f, "read"),
             Kind::Write => write!(f, "write"),
@@ -107,7 +109,10 @@ impl fmt::Display for Call {
     fn fmt(&self, f: &mut fmt::Formatter) -> fmt::Result {
         let Sizes { table, store, out, words } = self.sizes;
         writeln!(f, "{}", self.kind)?;
-        writeln!(f, "  lent: table {table}, store {store}, out {out} octets, answer, deadline, fields or part {words} words")?;
+        writeln!(
+            f,
+            "  lent: table {table}, store {store}, out {out} octets, answer, deadline, list, fields or part {words} words"
+        )?;
         write!(f, "  octets ({}):", self.octets.len())?;
         self.octets.iter().try_for_each(|octet| write!(f, " {octet:02X}"))?;
         write!(f, "\n  words ({}):", self.words.len())?;

@@ -57,7 +57,7 @@ impl fmt::Display for Place {
     fn fmt(&self, f: &mut fmt::Formatter) -> fmt::Result {
         match *self {
             Place::Number => write!(f, "the number"),
-            Place::Word(at) => write!(f, "word {at} of answer, deadline, fields or part"),
+            Place::Word(at) => write!(f, "word {at} of answer, deadline, list, fields or part"),
             Place::Out(at) => write!(f, "octet {at} of the output"),
             Place::Store(at) => write!(f, "octet {at} of the store (cell {}, octet {})", at / layout::CELL, at % layout::CELL),
             Place::Table(at) => match at.checked_sub(layout::HEADER) {

@@ -19,6 +19,7 @@ mod pdus;
 mod planted;
 mod rds;
 mod report;
+mod salvage;
 mod session;
 mod sides;
 mod sizes;
@@ -45,6 +46,7 @@ Usage: compare [--seed N] [--calls N] [--rds-calls N] [--rows]
   --help         this text
 
 Where a timer call fires a record, the same is done once more on copies by the calls deadline and fire, and must leave the same.
+A table that was salvaged must be well formed and the same when it is salvaged again; then calls go on with it.
 Progress goes to the standard error. At the end each row and each outcome of the codec is listed with how often it was reached, and
 each row of a received PDU and of a plain Ack with how often an unknown item was in it, and an Error item.
 Exit status: 0 all calls the same and every row reached, 1 a difference or a row never reached, 2 wrong arguments.

@@ -1,12 +1,13 @@
 //! Plays each call on both sides, which started with equal buffers, and stops at the first difference.
 
 use crate::buffers::Buffers;
-use crate::calls::Call;
+use crate::calls::{Call, Kind};
 use crate::differences::{self, Difference};
 use crate::sides::{Said, Side};
 use crate::tally::Tally;
 use kit::{say, with_commas, Random};
 use std::panic::{catch_unwind, AssertUnwindSafe};
+use wtp::ffi::SALVAGED;
 
 /// The fewest calls after which progress is told.
 const PROGRESS: u64 = 1000;
@@ -42,6 +43,8 @@ pub struct Pair {
 
 const SIDES: [&str; 2] = ["library", "twin"];
 const WAYS: [&str; 2] = ["in one call", "in two"];
+const SALVAGED_TWICE: [&str; 2] = ["salvaged once", "salvaged twice"];
+const WELL_FORMED: [&str; 2] = ["a well-formed table", "a salvaged one"];
 
 impl Pair {
     /// The library first and the twin second, for so many calls.
@@ -89,6 +92,9 @@ impl Pair {
         if let (0, Some(row)) = (said[1].number, said[1].row) {
             self.tally.count_items(call.kind, row, library);
         }
+        if call.kind == Kind::Salvage && said[1].number == 0 {
+            self.tally.count_reasons(&twin.words);
+        }
         self.show_progress();
         Ok(said[0].number)
     }
@@ -107,9 +113,24 @@ impl Pair {
 
     /// The number and the buffers of the library must be what one call, whose buffers were kept, left.
     pub fn must_be_kept(&self, call: &Call, number: u64) -> Result<(), End> {
+        self.must_be(&self.kept[0], call, number, WAYS)
+    }
+
+    /// The call is a second salvage: it must have changed nothing but the list of the one before, whose buffers were kept, to zeros.
+    pub fn must_be_salvaged(&mut self, call: &Call, number: u64) -> Result<(), End> {
+        self.kept[0].words[..SALVAGED].fill(0);
+        self.must_be(&self.kept[0], call, number, SALVAGED_TWICE)
+    }
+
+    /// The call must not have been refused, so that the table that it was lent is well formed.
+    pub fn must_be_accepted(&self, call: &Call, number: u64) -> Result<(), End> {
+        self.must_be(&self.buffers[0], call, number, WELL_FORMED)
+    }
+
+    fn must_be(&self, expected: &Buffers, call: &Call, number: u64, names: [&'static str; 2]) -> Result<(), End> {
         let said = [0, number].map(|number| Said { number, row: None });
-        match differences::first(said, [&self.kept[0], &self.buffers[0]]) {
-            Some(difference) => Err(self.found(self.tally.calls, call, WAYS, said, difference)),
+        match differences::first(said, [expected, &self.buffers[0]]) {
+            Some(difference) => Err(self.found(self.tally.calls, call, names, said, difference)),
             None => Ok(()),
         }
     }

@@ -56,6 +56,49 @@ fn told_of_another(call: &Call, buffers: &mut Buffers) -> Said {
     said
 }
 
+/// The library, but of two records with one name the higher place stays.
+fn keeps_the_highest(call: &Call, buffers: &mut Buffers) -> Said {
+    let before = buffers.table.clone();
+    let said = library(call, buffers);
+    if call.kind == Kind::Salvage && said.number == 0 && buffers.words[0] == 1 && buffers.words[2] == 3 {
+        let freed = layout::table_bytes(buffers.words[1] as usize);
+        buffers.table[freed..freed + layout::RECORD].copy_from_slice(&before[freed..freed + layout::RECORD]);
+        buffers.table[layout::HEADER..freed].fill(0);
+    }
+    said
+}
+
+/// The library, but an octet of the exit information of a freed record stays.
+fn frees_not_all(call: &Call, buffers: &mut Buffers) -> Said {
+    let before = buffers.table.clone();
+    let said = library(call, buffers);
+    if call.kind == Kind::Salvage && said.number == 0 && buffers.words[0] != 0 {
+        let last = layout::table_bytes(buffers.words[1] as usize) + layout::RECORD - 1;
+        buffers.table[last] = before[last];
+    }
+    said
+}
+
+/// The library, but salvage accepts every table and changes nothing.
+fn salvages_nothing(call: &Call, buffers: &mut Buffers) -> Said {
+    let before = buffers.table.clone();
+    let said = library(call, buffers);
+    if call.kind == Kind::Salvage && said.number == 0 {
+        buffers.table = before;
+        buffers.words[..wtp::ffi::SALVAGED].fill(0);
+    }
+    said
+}
+
+/// The library, but salvage lists a place that it didn't change.
+fn lists_too_much(call: &Call, buffers: &mut Buffers) -> Said {
+    let said = library(call, buffers);
+    if call.kind == Kind::Salvage && said.number == 0 && buffers.words[0] == 0 {
+        buffers.words[..3].copy_from_slice(&[1, 0, 2]);
+    }
+    said
+}
+
 /// The library, but a firing doesn't store its time.
 fn fired_without_its_time(call: &Call, buffers: &mut Buffers) -> Said {
     let clock = layout::CLOCK.get(&buffers.table);
@@ -120,6 +163,23 @@ fn two_calls_that_differ_from_the_timer_are_found_where_both_sides_have_them() {
     assert!(matches!(found.difference.place, Place::Table(0..=7)), "{}", found.difference.told(found.names));
     let found = found_on([told_of_another; 2]);
     assert_eq!(found.difference.told(found.names), "the number: in one call 0 (hex 0), in two 8 (hex 8)");
+}
+
+#[test]
+fn a_wrong_salvage_is_found() {
+    for (wrong, place) in [(keeps_the_highest as Side, "table"), (frees_not_all, "table"), (lists_too_much, "word 0")] {
+        let found = found(wrong);
+        assert!(found.call.starts_with("salvage\n"));
+        assert!(found.difference.told(found.names).contains(place), "{}", found.difference.told(found.names));
+    }
+}
+
+#[test]
+fn a_salvage_that_leaves_damage_or_lists_again_is_found_where_both_sides_have_it() {
+    assert_eq!(found_on([lists_too_much; 2]).names, ["salvaged once", "salvaged twice"]);
+    assert_eq!(found_on([frees_not_all; 2]).names, ["salvaged once", "salvaged twice"]);
+    let found = found_on([salvages_nothing; 2]);
+    assert_eq!(found.difference.told(found.names), "the number: a well-formed table 0 (hex 0), a salvaged one 1 (hex 1)");
 }
 
 #[test]

@@ -8,6 +8,7 @@ use crate::datagrams;
 use crate::engine::{self, Sent};
 use crate::fresh;
 use crate::pair::{End, Pair};
+use crate::salvage;
 use crate::sizes;
 use crate::view::View;
 use kit::layout;
@@ -58,8 +59,9 @@ impl Session<'_> {
         match self.random.below(1000) {
             0..=649 => self.engine_call().map(drop),
             650..=709 => self.engine_call_and_data(),
-            710..=749 => self.with_damaged_table(),
-            750..=869 => self.read_and_write(),
+            710..=739 => self.with_damaged_table(),
+            740..=759 => self.with_salvaged_table(),
+            760..=869 => self.read_and_write(),
             870..=899 => self.codec_call(datagrams::draw_separate).map(drop),
             900..=929 => self.codec_call(datagrams::draw_read_part).map(drop),
             930..=989 => self.codec_call(datagrams::draw_join).map(drop),
@@ -201,6 +203,38 @@ impl Session<'_> {
         }
         self.restore_table();
         Ok(())
+    }
+
+    /// Damages the table and salvages it, once and again, goes on with it for a while, and puts it back.
+    fn with_salvaged_table(&mut self) -> Result<(), End> {
+        self.save_table();
+        let [library, _] = &mut self.pair.buffers;
+        salvage::damage(self.random, &mut library.table, self.records);
+        self.pair.make_equal();
+        if self.bare_call(Kind::Salvage, 20)? == 0 && self.call.sizes.table == layout::table_bytes(self.records) {
+            self.salvaged_again()?;
+            for _ in 0..self.random.below(12) {
+                self.engine_call()?;
+            }
+        }
+        self.restore_table();
+        Ok(())
+    }
+
+    fn salvaged_again(&mut self) -> Result<(), End> {
+        self.pair.keep();
+        let number = self.pair.play(self.call)?;
+        self.pair.must_be_salvaged(self.call, number)?;
+        let number = self.bare_call(Kind::Deadline, 0)?;
+        self.pair.must_be_accepted(self.call, number)
+    }
+
+    /// A call that is lent nothing to read; `chance` in a hundred is that its sizes are wrong.
+    fn bare_call(&mut self, kind: Kind, chance: u64) -> Result<u64, End> {
+        self.call.octets.clear();
+        self.call.words.clear();
+        self.call.kind = kind;
+        self.make_with_wrong_sizes(chance)
     }
 
     fn save_table(&mut self) {

@@ -3,7 +3,7 @@
 use crate::calls::{Kind, Sizes};
 use kit::layout;
 use kit::Random;
-use wtp::ffi::{ANSWER, DUE, FIELDS, OUTPUT, PART, SENDING};
+use wtp::ffi::{ANSWER, DUE, FIELDS, OUTPUT, PART, SALVAGED, SENDING};
 
 /// The sizes that the call asks for, with an output that may be longer.
 pub fn right(random: &mut Random, kind: Kind, records: usize) -> Sizes {
@@ -11,6 +11,7 @@ pub fn right(random: &mut Random, kind: Kind, records: usize) -> Sizes {
         Kind::Read | Kind::ReadPart { .. } => (OUTPUT, FIELDS),
         Kind::Separate { .. } => (OUTPUT, PART),
         Kind::Deadline => (OUTPUT, DUE),
+        Kind::Salvage => (OUTPUT, SALVAGED),
         Kind::Write | Kind::Join | Kind::Data { .. } => (OUTPUT, ANSWER),
         _ => (random.of(&[SENDING, OUTPUT]), ANSWER),
     };
@@ -24,7 +25,7 @@ pub fn change(random: &mut Random, kind: Kind, sizes: &mut Sizes) {
         Kind::Data { .. } => 2,
         Kind::Write | Kind::Join => 2 + random.below(2),
         Kind::Fresh { .. } => 0,
-        Kind::Deadline => random.of(&[0, 3]),
+        Kind::Deadline | Kind::Salvage => random.of(&[0, 3]),
         _ => random.below(6),
     };
     match choice {

@@ -20,10 +20,18 @@ const OUTCOMES: [(&str, &[u64]); 7] = [
     ("data", &[0, 1, 11]),
 ];
 
+/// Why salvage changes a place.
+const REASONS: [(u64, &str); 3] = [
+    (1, "salvage, reason 1: a field out of range"),
+    (2, "salvage, reason 2: free and not zero"),
+    (3, "salvage, reason 3: the name of a lower place"),
+];
+
 #[derive(Default)]
 pub struct Tally {
     pub calls: u64,
     rows: BTreeMap<Row, u64>,
+    reasons: BTreeMap<u64, u64>,
     outcomes: BTreeMap<(&'static str, u64), u64>,
     items: Items,
 }
@@ -44,6 +52,14 @@ impl Tally {
         self.items.count(kind, row, left);
     }
 
+    /// Counts the places of a list that salvage wrote, by their reasons.
+    pub fn count_reasons(&mut self, list: &[u64]) {
+        let places = usize::try_from(list[0]).unwrap_or(usize::MAX);
+        for entry in list[1..].chunks_exact(2).take(places) {
+            *self.reasons.entry(entry[1]).or_insert(0) += 1;
+        }
+    }
+
     fn row(&self, row: Row) -> u64 {
         self.rows.get(&row).copied().unwrap_or(0)
     }
@@ -51,9 +67,11 @@ impl Tally {
     /// Each outcome in words with its count.
     fn outcomes(&self) -> impl Iterator<Item = (String, u64)> + '_ {
         let all = OUTCOMES.iter().flat_map(|(call, numbers)| numbers.iter().map(move |number| (*call, *number)));
-        all.map(|(call, number)| {
+        let numbers = all.map(|(call, number)| {
             (format!("{call} {}", outcome(number)), self.outcomes.get(&(call, number)).copied().unwrap_or(0))
-        })
+        });
+        let reasons = REASONS.iter().map(|(reason, name)| (name.to_string(), self.reasons.get(reason).copied().unwrap_or(0)));
+        numbers.chain(reasons)
     }
 
     pub fn rows_reached(&self) -> usize {
@@ -92,7 +110,7 @@ mod tests {
     #[test]
     fn what_was_never_counted_is_named() {
         let mut tally = Tally::default();
-        let all = Row::ALL.len() + 42;
+        let all = Row::ALL.len() + 45;
         assert_eq!(tally.never_reached().len(), all);
         tally.count(Kind::Timer { now: 0 }, Said { number: 0, row: Some(Row::ALL[0]) });
         tally.count(Kind::Read, Said { number: 104, row: None });
@@ -101,6 +119,8 @@ mod tests {
         let missing = tally.never_reached();
         assert_eq!(missing.len(), all - 2);
         assert!(!missing.contains(&"read D4".to_string()));
+        tally.count_reasons(&[2, 0, 3, 4, 3, 9, 2]);
+        assert_eq!(tally.never_reached().len(), all - 3, "what is past the places isn't counted");
         assert!(missing.contains(&"write D4".to_string()));
         assert!(missing.contains(&"fresh refused 10".to_string()));
     }

@@ -26,6 +26,9 @@ pub enum Event {
 /// What calls go to: event, time, octets and buffers in, the number out.
 pub type Engine = fn(Event, u64, &[u8], Lent) -> u64;
 
+/// What salvage goes to: the table and the list in, the number out.
+pub type Salvage = fn(&mut [u8], &mut [u64]) -> u64;
+
 pub fn library(event: Event, now: u64, octets: &[u8], lent: Lent) -> u64 {
     match event {
         Event::Request { peer, class, user_ack } => ffi::request(lent, now, peer, class, user_ack, octets),

@@ -26,12 +26,29 @@ pub enum Command {
         at: usize,
         value: u8,
     },
+    /// Copies the octets of one record over those of another.
+    Copy {
+        end: usize,
+        place: usize,
+        to: usize,
+    },
+    /// Makes every octet of a record this one.
+    Fill {
+        end: usize,
+        place: usize,
+        value: u8,
+    },
     Look {
         end: usize,
     },
     /// The earliest deadline.
     Deadline {
         end: usize,
+    },
+    /// Salvages a table, with so many words lent for the list.
+    Salvage {
+        end: usize,
+        words: usize,
     },
     Call(Call),
     Codec(Case),
@@ -48,6 +65,9 @@ pub fn command(line: &str) -> Result<Command, String> {
         Some("bytes") => Command::Bytes { records: words.number("RECORDS")? },
         Some("fresh") => fresh(&mut words)?,
         Some("put") => Command::Put { end: words.end()?, at: words.number("AT")?, value: words.number("VALUE")? },
+        Some("copy") => Command::Copy { end: words.end()?, place: words.number("PLACE")?, to: words.number("TO")? },
+        Some("fill") => Command::Fill { end: words.end()?, place: words.number("PLACE")?, value: words.number("VALUE")? },
+        Some("sal") => Command::Salvage { end: words.end()?, words: words.number("WORDS")? },
         Some("look") => Command::Look { end: words.end()? },
         Some("due") => Command::Deadline { end: words.end()? },
         Some("r") => Command::Codec(Case::Read(words.last_octets()?)),

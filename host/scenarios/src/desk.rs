@@ -90,6 +90,16 @@ impl End {
     }
 }
 
+impl End {
+    /// The octets of a record; an error where the table has no such place.
+    pub fn record(&mut self, place: usize) -> Result<&mut [u8], String> {
+        let missing = format!("there is no place {place}");
+        let records = usize::try_from(self.records).unwrap_or_default();
+        let octets = self.buffers.table.get_mut(HEADER..).unwrap_or_default();
+        octets.chunks_exact_mut(RECORD).take(records).nth(place).ok_or(missing)
+    }
+}
+
 impl Desk {
     pub fn new() -> Desk {
         Desk { ends: [End::new(), End::new()], settings: usual(), lent: None }

@@ -19,6 +19,7 @@ mod planted;
 mod player;
 pub mod rds;
 mod refused;
+mod salvaged;
 mod words;
 
 pub use player::play;

@@ -18,6 +18,8 @@ Usage: scenarios [--rds] FILE
   bytes RECORDS                       the bytes of a table
   fresh END RECORDS TID               makes the table of end 0 or 1 fresh
   put END AT VALUE                    changes an octet of a table
+  copy END PLACE TO                   copies the octets of one record over those of another
+  fill END PLACE VALUE                makes every octet of a record this one
   look END                            a table in words
   req END TIME PEER CLASS UP /DATA    a request
   ans END TIME ROLE PEER TID /EXIT    the user's answer, with its exit information
@@ -28,6 +30,7 @@ Usage: scenarios [--rds] FILE
   tim END TIME                        the timer call
   due END                             the earliest deadline; ANSWER words are lent for it
   fir END TIME ROLE PEER TID          fires this record
+  sal END WORDS                       salvages the table; so many words are lent for the list
   r PDU                               reads it; what was read is then written
   w N=V .. /OCTETS                    writes the PDU of these words, whose parts lie in the octets
   s DATAGRAM                          separates it, and reads each part
@@ -48,7 +51,7 @@ With --rds the commands are frames of the Reliable Data Service, and calls over 
   # ..                                a title
 
 Octets are pairs of hex digits; 41*255, is an octet 255 times. Each line is printed with what it gives. In braces stand the
-place of the record whose octets an accepted call changed, and its state before and after: {0: RTidokWait1 -> RInvokeRespWait1}.
+place of each record whose octets an accepted call changed, and its state before and after: {0: RTidokWait1 -> RInvokeRespWait1}.
 
 Exit status: 0 played, 2 wrong arguments, or a file or a line that can't be read.
 

@@ -1,17 +1,21 @@
 //! Engines and codecs with a planted error, each of which must be told; and lines that are no command.
 
-use crate::call::{Engine, Event};
+use crate::call::{library, Engine, Event, Salvage};
 use crate::codec::{Case, Codec, LIBRARY};
 use crate::player::{play, play_on};
 use kit::layout::STATE;
-use wtp::ffi::{Lent, ANSWER};
+use wtp::ffi::{self, Lent, ANSWER, SALVAGED};
 
 const START: &str = "# a table of two records\nfresh 0 2 7\n";
 
 /// What the line gives on this engine.
 fn given(engine: Engine, line: &str) -> String {
+    given_on(engine, ffi::salvage, line)
+}
+
+fn given_on(engine: Engine, salvage: Salvage, line: &str) -> String {
     let mut told = String::new();
-    play_on(engine, &format!("{START}{line}\n"), &mut told).unwrap();
+    play_on(engine, salvage, &format!("{START}{line}\n"), &mut told).unwrap();
     told.trim_end().rsplit_once(line).unwrap().1.to_string()
 }
 
@@ -74,6 +78,33 @@ fn tells_and_changes(_: Event, _: u64, _: &[u8], lent: Lent) -> u64 {
 fn a_deadline_that_changes_something_or_has_odd_words_is_told() {
     assert_eq!(given(tells_and_changes, "due 0"), ": ok; none; word 3 is 8; changed word 5; MORE THAN THE WORDS CHANGED");
     assert_eq!(given(refuses_and_changes, "due 0"), ": refused 2; A REFUSED CALL CHANGED SOMETHING");
+}
+
+/// Lists two places, changes a third and the header, and writes a word too many.
+fn salvages_too_much(table: &mut [u8], list: &mut [u64]) -> u64 {
+    table[0] = 1;
+    STATE.of_record(1).set(table, 2);
+    list.fill(0);
+    list[..6].copy_from_slice(&[2, 0, 1, 1, 3, 9]);
+    0
+}
+
+fn refuses_and_lists(_: &mut [u8], list: &mut [u64]) -> u64 {
+    list[0] = 0;
+    15
+}
+
+#[test]
+fn a_salvage_that_changes_too_much_or_lists_odd_words_is_told() {
+    let odd = "; 2 salvaged, place 0 reason 1, place 1 reason 3; word 5 is 9; changed word 97; MORE THAN THE RECORDS CHANGED";
+    assert_eq!(given_on(library, salvages_too_much, "sal 0 98"), format!(": ok {{1: Free -> IResultWait2}}{odd}"));
+    assert_eq!(given_on(library, refuses_and_lists, "sal 0 97"), ": refused 15; A REFUSED CALL CHANGED SOMETHING");
+    let longest = |_: &mut [u8], list: &mut [u64]| {
+        list[..SALVAGED].fill(1);
+        list[0] = u64::MAX;
+        0
+    };
+    assert!(given_on(library, longest, "sal 0 97").ends_with(", place 1 reason 1"));
 }
 
 #[test]
@@ -166,6 +197,10 @@ fn a_line_that_is_no_command_is_named() {
         ("tim 0 10 5", "\"5\" is too much"),
         ("fir 0 10 0 5", "TID is missing"),
         ("due 0 10", "\"10\" is too much"),
+        ("sal 0", "WORDS is missing"),
+        ("copy 0 0 2", "there is no place 2"),
+        ("fill 0 2 0", "there is no place 2"),
+        ("fill 0 0 256", "VALUE can't be \"256\""),
         ("tim 0 -1", "TIME can't be \"-1\""),
         ("rcv 0 10 5 18", "/OCTETS can't be \"18\""),
         ("abo 0 10 0 5 7 256", "REASON can't be \"256\""),

@@ -1,22 +1,24 @@
 //! Plays a text of commands, line by line.
 
 use crate::answer::Answer;
-use crate::call::{library, Call, Engine, Event};
+use crate::call::{library, Call, Engine, Event, Salvage};
 use crate::changes::changes;
 use crate::codec;
 use crate::command::{command, Command};
-use crate::desk::Desk;
+use crate::desk::{Desk, UNTOUCHED_WORD};
 use crate::look::look;
 use crate::refused::refused;
+use crate::salvaged::salvaged;
+use kit::layout::HEADER;
 use wtp::ffi;
 
 /// Tells each line and what it gives, up to the first that is no command: that one is the error.
 pub fn play(text: &str, told: &mut String) -> Result<(), String> {
-    play_on(library, text, told)
+    play_on(library, ffi::salvage, text, told)
 }
 
-pub fn play_on(engine: Engine, text: &str, told: &mut String) -> Result<(), String> {
-    let mut player = Player { desk: Desk::new(), engine };
+pub fn play_on(engine: Engine, salvage: Salvage, text: &str, told: &mut String) -> Result<(), String> {
+    let mut player = Player { desk: Desk::new(), engine, salvage };
     for (number, line) in (1..).zip(text.lines()) {
         let given = command(line).and_then(|command| player.run(command));
         let given = given.map_err(|wrong| format!("line {number}: {wrong}"))?;
@@ -25,9 +27,13 @@ pub fn play_on(engine: Engine, text: &str, told: &mut String) -> Result<(), Stri
     Ok(())
 }
 
+/// The longest list that can be lent.
+const MOST_WORDS: usize = 200;
+
 struct Player {
     desk: Desk,
     engine: Engine,
+    salvage: Salvage,
 }
 
 impl Player {
@@ -39,8 +45,11 @@ impl Player {
             Command::Bytes { records } => return Ok(format!(": {}", ffi::table_bytes(records))),
             Command::Fresh { end, records, first_tid } => return Ok(self.fresh(end, records, first_tid)),
             Command::Put { end, at, value } => return self.put(end, at, value),
+            Command::Copy { end, place, to } => self.copy(end, place, to)?,
+            Command::Fill { end, place, value } => self.desk.ends[end].record(place)?.fill(value),
             Command::Look { end } => return self.look(end),
             Command::Deadline { end } => return Ok(self.deadline(end)),
+            Command::Salvage { end, words } => return Ok(self.salvage(end, words)),
             Command::Call(call) => return Ok(self.call(call)),
             Command::Codec(case) => return codec::LIBRARY.told(&case),
         }
@@ -66,6 +75,13 @@ impl Player {
         Ok(format!(": was {was}"))
     }
 
+    fn copy(&mut self, end: usize, place: usize, to: usize) -> Result<(), String> {
+        let end = &mut self.desk.ends[end];
+        let octets = end.record(place)?.to_vec();
+        end.record(to)?.copy_from_slice(&octets);
+        Ok(())
+    }
+
     fn look(&self, end: usize) -> Result<String, String> {
         let end = &self.desk.ends[end];
         let bytes = usize::try_from(ffi::table_bytes(end.records)).unwrap_or_default();
@@ -86,6 +102,22 @@ impl Player {
         let told = Answer { buffers, octets: &[] }.deadline();
         let changed = before.table != buffers.table || before.store != buffers.store || before.out != buffers.out;
         format!(": ok{told}{}", if changed { "; MORE THAN THE WORDS CHANGED" } else { "" })
+    }
+
+    /// Salvages the table; of what is lent only its records and the list may change.
+    fn salvage(&mut self, end: usize, words: usize) -> String {
+        let sizes = self.desk.sizes(end);
+        let table = &mut self.desk.ends[end].buffers.table;
+        let before = table.clone();
+        let mut list = vec![UNTOUCHED_WORD; words.min(MOST_WORDS)];
+        let number = (self.salvage)(&mut table[..sizes.table], &mut list);
+        let unlisted = list.iter().all(|word| *word == UNTOUCHED_WORD);
+        if number != 0 {
+            return refused(number, before != *table || !unlisted);
+        }
+        let changed = changes(&before[..sizes.table], &table[..sizes.table]);
+        let more = before[..HEADER] != table[..HEADER] || before[sizes.table..] != table[sizes.table..];
+        format!(": ok{changed}{}{}", salvaged(&list), if more { "; MORE THAN THE RECORDS CHANGED" } else { "" })
     }
 
     /// Makes the call on what is lent, and keeps the PDU that it sends.

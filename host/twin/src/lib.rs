@@ -23,6 +23,7 @@ mod record;
 mod request;
 mod responder;
 mod row;
+mod salvage;
 mod sending;
 mod table;
 #[cfg(test)]
@@ -40,6 +41,7 @@ pub use reading::read;
 pub use receive::receive;
 pub use request::request;
 pub use row::Row;
+pub use salvage::salvage;
 pub use timer::{deadline, fire, timer};
 pub use writing::write;
 

@@ -175,6 +175,8 @@ rows! {
     TimerNoneDue "timer: none due",
     DeadlineTold "deadline: the earliest is told",
     DeadlineNone "deadline: no record has one",
+    SalvageNothing "salvage: nothing to change",
+    SalvageChanged "salvage: places are changed",
 
     Request1 "request refused 1",
     Request2 "request refused 2",
@@ -204,6 +206,8 @@ rows! {
     Timer1 "timer refused 1",
     Timer2 "timer refused 2",
     Deadline1 "deadline refused 1",
+    Salvage1 "salvage refused 1",
+    Salvage15 "salvage refused 15",
     Fire1 "fire refused 1",
     Fire2 "fire refused 2",
     Fire3 "fire refused 3",

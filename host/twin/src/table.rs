@@ -22,6 +22,17 @@ pub struct Table<O> {
     octets: O,
 }
 
+/// What a record's octets say by themselves.
+#[derive(Clone, Copy, Debug, PartialEq, Eq)]
+pub enum Judged {
+    Free,
+    /// Free by its state, and not zero.
+    FreeNotZero,
+    /// Of an unknown state, or live with a field out of range.
+    OutOfRange,
+    Live(Name),
+}
+
 /// How many records a table of this size has, if it is one of 1 to 48 records.
 pub fn records_in(octets: usize) -> Option<usize> {
     let records = octets.checked_sub(HEADER)?;
@@ -40,12 +51,17 @@ pub fn is_waiting_limit(modes: u64, limit: u64) -> bool {
 impl<O: Deref<Target = [u8]>> Table<O> {
     /// The table, if it has a right size and is well formed.
     pub fn open(octets: O) -> Option<Table<O>> {
-        records_in(octets.len())?;
-        let table = Table { octets };
+        let table = Table::of_size(octets)?;
         (table.header_is_sound() && table.records_are_sound()).then_some(table)
     }
 
-    fn header_is_sound(&self) -> bool {
+    /// The table, if it has a right size, whatever it holds.
+    pub fn of_size(octets: O) -> Option<Table<O>> {
+        records_in(octets.len())?;
+        Some(Table { octets })
+    }
+
+    pub fn header_is_sound(&self) -> bool {
         let mut intervals =
             self.octets[INTERVALS..WAITING_LIMIT].chunks_exact(4).map(|four| u32::from_le_bytes(array_at(four, 0)));
         let cached = self.octets[CACHE..HEADER].chunks_exact(2).map(|two| u16::from_le_bytes(array_at(two, 0)));
@@ -64,24 +80,31 @@ impl<O: Deref<Target = [u8]>> Table<O> {
     fn records_are_sound(&self) -> bool {
         let mut names = [0; bounds::RECORDS];
         let mut live = 0;
-        for octets in self.octets[HEADER..].chunks_exact(OCTETS) {
-            if octets[0] == 0 {
-                if *octets != [0; OCTETS] {
-                    return false;
-                }
-                continue;
-            }
-            match Record::decode(octets) {
-                Some(record) if record.is_sound(octets, self.rcr_max(), self.aec_max()) => {
-                    names[live] = packed(record.name());
+        for place in 0..self.records() {
+            match self.judged(place) {
+                Judged::Free => {}
+                Judged::Live(name) => {
+                    names[live] = packed(name);
                     live += 1;
                 }
-                _ => return false,
+                Judged::FreeNotZero | Judged::OutOfRange => return false,
             }
         }
         let names = &mut names[..live];
         names.sort_unstable();
         names.windows(2).all(|pair| pair[0] != pair[1])
+    }
+
+    /// The record at a place by itself, with the table's own RCR_MAX and AEC_MAX.
+    pub fn judged(&self, place: usize) -> Judged {
+        let octets = &self.octets[HEADER + OCTETS * place..][..OCTETS];
+        if octets[0] == 0 {
+            return if *octets == [0; OCTETS] { Judged::Free } else { Judged::FreeNotZero };
+        }
+        match Record::decode(octets) {
+            Some(record) if record.is_sound(octets, self.rcr_max(), self.aec_max()) => Judged::Live(record.name()),
+            _ => Judged::OutOfRange,
+        }
     }
 
     pub fn records(&self) -> usize {

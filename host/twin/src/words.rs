@@ -1,9 +1,10 @@
-//! The words of a PDU and their number; how many words an answer, a part and a deadline have.
+//! The words of a PDU and their number; how many words an answer, a part, a deadline and a list of salvaged places have.
 
 pub const FIELDS: usize = 88;
 pub const ANSWER: usize = 40;
 pub const PART: usize = 3;
 pub const DUE: usize = 5;
+pub const SALVAGED: usize = 97;
 pub const SETTINGS: usize = 32;
 
 pub const TYPE: usize = 0;

@@ -14,6 +14,8 @@ pub const FIELDS: usize = 88;
 pub const PART: usize = 3;
 /// Words of a deadline.
 pub const DUE: usize = 5;
+/// Words of a list of salvaged places.
+pub const SALVAGED: usize = 97;
 /// Octets of the store for each record.
 pub const CELL: usize = 1024;
 /// Octets of the output that the engine asks for.
@@ -60,6 +62,7 @@ extern "C" {
     fn wtp_deadline(table: *const u8, table_len: usize, due: *mut u64, due_len: usize) -> u64;
     fn wtp_fire(table: *mut u8, table_len: usize, store: *mut u8, store_len: usize, out: *mut u8, out_len: usize,
                 answer: *mut u64, answer_len: usize, now: u64, role: u64, peer: u64, tid: u64) -> u64;
+    fn wtp_salvage(table: *mut u8, table_len: usize, list: *mut u64, list_len: usize) -> u64;
     fn wtp_read(pdu: *const u8, pdu_len: usize, fields: *mut u64, fields_len: usize) -> u64;
     fn wtp_write(fields: *const u64, fields_len: usize, bytes: *const u8, bytes_len: usize,
                  out: *mut u8, out_len: usize, answer: *mut u64, answer_len: usize) -> u64;
@@ -136,6 +139,12 @@ pub fn deadline(table: &[u8], due: &mut [u64]) -> u64 {
 #[inline]
 pub fn fire(lent: Lent, now: u64, of: Record) -> u64 {
     engine!(wtp_fire, lent, now, of.role, of.peer, of.tid)
+}
+
+#[inline]
+pub fn salvage(table: &mut [u8], list: &mut [u64]) -> u64 {
+    // SAFETY: as in `engine`.
+    unsafe { wtp_salvage(table.as_mut_ptr(), table.len(), list.as_mut_ptr(), list.len()) }
 }
 
 #[inline]

@@ -11,6 +11,7 @@ mod deadline;
 #[allow(unsafe_code)]
 pub mod ffi;
 mod refused;
+mod salvaged;
 mod settings;
 mod shown;
 mod table;
@@ -19,6 +20,7 @@ mod unknown;
 
 pub use deadline::Deadline;
 pub use refused::Refused;
+pub use salvaged::{Damage, Salvaged};
 pub use settings::Settings;
 pub use shown::{Abort, Name, NonEmpty, Reason, Role, Shown};
 pub use table::Table;

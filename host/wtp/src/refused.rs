@@ -1,4 +1,4 @@
-//! The numbers of document 01, in words.
+//! The numbers of documents 01 and 02, in words.
 
 use std::fmt;
 
@@ -16,6 +16,7 @@ pub enum Refused {
     NotAllowed,
     WrongSetting,
     WrongLength,
+    WrongHeader,
     /// D1 of the codec.
     CutShort,
     /// D2.
@@ -36,7 +37,7 @@ pub enum Refused {
     Unreadable,
 }
 
-const KNOWN: [(u64, Refused, &str); 18] = [
+const KNOWN: [(u64, Refused, &str); 19] = [
     (1, Refused::WrongSize, "a lent buffer has the wrong size, or the table isn't well formed"),
     (2, Refused::WrongTime, "the time is below the last accepted one or over the bound"),
     (3, Refused::PeerTooLarge, "the peer is over 255"),
@@ -48,6 +49,7 @@ const KNOWN: [(u64, Refused, &str); 18] = [
     (9, Refused::NotAllowed, "the record's state doesn't allow the call, or it isn't due"),
     (10, Refused::WrongSetting, "a setting or the first TID is out of range"),
     (11, Refused::WrongLength, "a length is outside 1 to 1,500, or the datagram can't be separated or joined"),
+    (15, Refused::WrongHeader, "a field of the table outside its records is out of range"),
     (101, Refused::CutShort, "the header is cut short, or a value is too wide for its place"),
     (102, Refused::WrongType, "the type is 0 or over 7"),
     (103, Refused::ItemPastEnd, "an item runs past the end"),
@@ -58,6 +60,12 @@ const KNOWN: [(u64, Refused, &str); 18] = [
 ];
 
 impl Refused {
+    /// The refusal of this number, as `number` gives it.
+    pub fn of(number: u64) -> Refused {
+        let known = KNOWN.iter().find(|row| row.0 == number).map(|row| row.1);
+        known.unwrap_or(if number == 0 { Refused::Unreadable } else { Refused::Unknown(number) })
+    }
+
     /// The number that the library gave: 0 where it accepted the call with an answer that can't be read.
     pub fn number(self) -> u64 {
         match self {
@@ -69,11 +77,10 @@ impl Refused {
 
 /// What a call's number says.
 pub(crate) fn accepted(number: u64) -> Result<(), Refused> {
-    if number == 0 {
-        return Ok(());
+    match number {
+        0 => Ok(()),
+        _ => Err(Refused::of(number)),
     }
-    let known = KNOWN.iter().find(|row| row.0 == number);
-    Err(known.map_or(Refused::Unknown(number), |row| row.1))
 }
 
 impl fmt::Display for Refused {
@@ -98,6 +105,9 @@ mod tests {
             assert_eq!(accepted(number).map_err(Refused::number), Err(number));
         }
         assert_eq!(accepted(0), Ok(()));
+        assert!([Refused::Unreadable, Refused::Unknown(99), Refused::WrongHeader]
+            .iter()
+            .all(|one| Refused::of(one.number()) == *one));
         assert_eq!(accepted(12), Err(Refused::Unknown(12)));
     }
 }

@@ -3,6 +3,7 @@
 use crate::deadline::{deadline, Deadline};
 use crate::ffi::{self, Lent, Record};
 use crate::refused::{accepted, Refused};
+use crate::salvaged::{salvaged, Salvaged};
 use crate::settings::Settings;
 use crate::shown::{Name, Role};
 use crate::taken::{self, Places, Taken};
@@ -87,6 +88,13 @@ impl Table {
     pub fn fire(&mut self, now: u64, of: Name) -> Result<Taken, Refused> {
         accepted(ffi::fire(self.lent(), now, record(of)))?;
         self.take(&[], false)
+    }
+
+    /// Makes a damaged table well formed, and says which places were zeroed for it: none where it was well formed. The store stays.
+    pub fn salvage(&mut self) -> Result<Vec<Salvaged>, Refused> {
+        let mut list = [0; ffi::SALVAGED];
+        accepted(ffi::salvage(&mut self.table, &mut list))?;
+        salvaged(&list).ok_or(Refused::Unreadable)
     }
 
     fn lent(&mut self) -> Lent<'_> {

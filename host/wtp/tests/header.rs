@@ -2,7 +2,7 @@
 
 use kit::header::{joined, Header};
 use wtp::codec::word;
-use wtp::ffi;
+use wtp::{ffi, Damage, Refused};
 
 const HEADER: Header = Header {
     header: include_str!("../../../include/wtp.h"),
@@ -18,7 +18,7 @@ fn value(name: &str) -> usize {
 #[test]
 fn every_function_has_the_parameters_of_the_header() {
     let in_c = HEADER.declared_in_c();
-    assert_eq!(in_c.len(), 16);
+    assert_eq!(in_c.len(), 17);
     assert_eq!(in_c, HEADER.declared_in_rust());
 }
 
@@ -35,6 +35,7 @@ fn the_sizes_are_those_of_the_header() {
         ("WTP_FIELDS", ffi::FIELDS),
         ("WTP_PART", ffi::PART),
         ("WTP_DUE", ffi::DUE),
+        ("WTP_SALVAGED", ffi::SALVAGED),
         ("WTP_CELL", ffi::CELL),
         ("WTP_SENDING", ffi::SENDING),
         ("WTP_OUTPUT", ffi::OUTPUT),
@@ -64,6 +65,21 @@ fn the_words_of_an_answer_are_where_the_wrapper_reads_them() {
 fn the_words_of_a_deadline_are_in_the_order_in_which_the_wrapper_reads_them() {
     let words = ["WTP_DUE_ANY", "WTP_DUE_AT", "WTP_DUE_ROLE", "WTP_DUE_PEER", "WTP_DUE_TID"];
     assert!(words.iter().map(|name| value(name)).eq(0..ffi::DUE));
+}
+
+#[test]
+fn the_words_of_a_list_of_salvaged_places_are_in_the_order_in_which_the_wrapper_reads_them() {
+    let words = ["WTP_SALVAGED_PLACES", "WTP_SALVAGED_PLACE", "WTP_SALVAGED_REASON"];
+    assert!(words.iter().map(|name| value(name)).eq(0..3));
+    let reasons = [
+        ("WTP_SALVAGED_OUT_OF_RANGE", Damage::OutOfRange),
+        ("WTP_SALVAGED_NOT_ZERO", Damage::FreeNotZero),
+        ("WTP_SALVAGED_SAME_NAME", Damage::SameName),
+    ];
+    for (name, damage) in reasons {
+        assert_eq!(value(name) as u64, damage.number(), "{name}");
+    }
+    assert_eq!(value("WTP_WRONG_HEADER") as u64, Refused::WrongHeader.number());
 }
 
 #[test]

@@ -5,6 +5,7 @@ mod datagrams;
 mod reader_and_writer;
 mod refusals;
 mod rows;
+mod salvage;
 mod tables;
 mod tidnew;
 mod timer;
@@ -147,6 +148,26 @@ impl End {
         } else {
             Err(said.number)
         }
+    }
+
+    /// The places that were changed, each with its reason, or the number; the outcome is well formed and salvaged once for all.
+    pub fn salvage(&mut self) -> Result<Vec<[u64; 2]>, u64> {
+        let before = self.clone();
+        let mut list = [7; 98];
+        let said = crate::salvage(&mut self.table, &mut list);
+        assert_eq!(list[97], 7, "{said:?} wrote too much");
+        if said.number != 0 {
+            assert!(*self == before && list == [7; 98], "{said:?} changed something");
+            return Err(said.number);
+        }
+        assert_eq!(self.table[..624], before.table[..624]);
+        assert!(self.deadline().is_ok());
+        let (once, mut again) = (self.table.clone(), [7; 97]);
+        assert_eq!(crate::salvage(&mut self.table, &mut again).row, crate::Row::SalvageNothing);
+        assert!(self.table == once && again == [0; 97]);
+        let places = list[0] as usize;
+        assert!(list[1 + 2 * places..97].iter().all(|word| *word == 0));
+        Ok(list[1..1 + 2 * places].chunks_exact(2).map(|entry| [entry[0], entry[1]]).collect())
     }
 
     /// The PDU that the last accepted call sent.

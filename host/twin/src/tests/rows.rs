@@ -126,12 +126,22 @@ fn reach_refusals(reached: &mut BTreeSet<Row>) {
     reached.insert(taken.request(0, PEER, 1, 0, &[]).row);
 }
 
+fn reach_salvage(reached: &mut BTreeSet<Row>) {
+    let good = End::new(1, 0);
+    for (at, words) in [(0, 97), (98, 97), (624, 96), (700, 97)] {
+        let mut end = good.clone();
+        end.table[at] = 1;
+        reached.insert(crate::salvage(&mut end.table, &mut vec![0; words]).row);
+    }
+}
+
 #[test]
 fn every_row_is_reached() {
     let mut reached = BTreeSet::new();
     reach_records(&mut reached);
     reach_without_record(&mut reached);
     reach_refusals(&mut reached);
+    reach_salvage(&mut reached);
     let missed: Vec<&str> = Row::ALL.iter().filter(|row| !reached.contains(row)).map(|row| row.name()).collect();
     assert_eq!(missed, [""; 0]);
 }
