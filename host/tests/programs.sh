@@ -63,7 +63,7 @@ file() {
 one="$(file one.csv 'sampler,site\n0041,Quay\n')"
 
 echo "help and arguments"
-for program in gateway reader wtpdump compare scenarios bench browse; do
+for program in gateway reader salvage wtpdump compare scenarios bench browse; do
     check "$program --help" says 0 "xample: $program " "$program" --help --bad
     check "$program -h" says 0 "xample: $program " "$program" -h
     check "$program with a wrong switch" says 2 "$program: there is no switch --bad; $program --help says" "$program" --bad --help
@@ -209,6 +209,8 @@ filled freed 600
 check "one whose waiting limit ends comes free by itself" says 0 "VALUE         NO2 41.2 ug/m3" reader --gateway "$address" --interval 200 "$one"
 stop "$process"
 check "and verifies once more" waits_for "gateway: 5 verifications begun, 1 results confirmed" "$work/freed.log"
+
+. host/tests/states.sh
 
 echo "frames of the Reliable Data Service"
 gateway frames --rds --loss 10

@@ -8,8 +8,10 @@ use kit::{interrupt, say};
 use link::book::Book;
 use link::common::{self, Common};
 use link::desk::Desk;
+use link::keeper::Resumed;
 use link::modem::Modem;
 use link::post::{self, Post};
+use link::state::Whose;
 use rds::Side;
 use std::process::ExitCode;
 
@@ -27,17 +29,19 @@ RESULTS.csv has the header sampler,answer,detail. The answers, and what they do:
   unheard  the Invoke is thrown away, as if it had never come
   damaged  the Result goes out malformed
 A sampler that isn't in the file is aborted by the user with reason 10.
-There are numbers for 256 readers (addresses) in one run; a further one is refused, with a line that says so.
+There are numbers for 256 readers (addresses) in one run, or in all runs with one state file; a further one is refused, with a
+line that says so.
 
 Switches, with their defaults:
-  --listen ADDRESS     address and port; port 0 takes a free one (127.0.0.1:9201)
+  --listen ADDRESS     address and port; port 0 takes a free one (127.0.0.1:9201, or that of the state file)
   --patience MS        the engine's waiting limit, 1 to 86400000: so long may a transaction wait where the protocol has no timer,
                        for a TID that is verified or, after a hold-on, for a user; then the engine ends it (30000)
   --quiet              no line for an event";
 
 const HELP_END: &str = "  --help               this text
 
-Exit status: 0 stopped by Ctrl-C or SIGTERM, 2 wrong arguments, a wrong file or an address that can't be used.
+Exit status: 0 stopped by Ctrl-C or SIGTERM, 2 wrong arguments, a wrong file or an address that can't be used; a state file that
+can't be used stays as it was.
 
 Example: gateway --listen 127.0.0.1:9201 --loss 10 --delay 50 host/examples/results.csv";
 
@@ -60,15 +64,36 @@ fn main() -> ExitCode {
 fn prepare(given: &Given) -> Result<Gateway, String> {
     let common = Common::of(given, RECORDS)?;
     let patience = given.number("--patience", 30_000, 1..=86_400_000)?;
-    let address = post::address(given.text("--listen")?.unwrap_or(common::DEFAULT_ADDRESS))?;
+    let listen = given.text("--listen")?.map(post::address).transpose()?;
     let [file] = given.all_names(["RESULTS.csv"])?;
     let book = Book::read(file)?;
     let samplers = book.len();
-    let modem = common.modem(Desk::new(common.table(patience)?, book), Side::Network);
-    let post = Post::bind(address, common.line())?;
+    let (keeper, resumed) = common.state(given, Whose::Gateway)?;
+    let desk = match &resumed {
+        Some(resumed) => Desk::resumed(resumed, book)?,
+        None => Desk::new(common.table(patience)?, book),
+    };
+    let address = match listen.or_else(|| resumed.as_ref().map(|resumed| resumed.own)) {
+        Some(address) => address,
+        None => post::address(common::DEFAULT_ADDRESS)?,
+    };
+    let modem = common.modem(desk, Side::Network);
+    let mut post = Post::bind(address, common.line())?;
     interrupt::watch();
     say::out(&format!("gateway: listening on {} with {samplers} samplers", post.local()?));
+    for line in resumed.map_or_else(Vec::new, |resumed| go_on(&mut post, resumed)) {
+        say::out(&format!("gateway: {line}"));
+    }
+    post.keep_in(keeper, &modem)?;
     Ok(Gateway { post, modem, quiet: given.has("--quiet") })
+}
+
+/// Gives the post the time and the peers that were kept; what is to be said of them is given back.
+fn go_on(post: &mut Post, resumed: Resumed) -> Vec<String> {
+    let lines = resumed.lines();
+    post.go_on_from(resumed.clock());
+    post.peers = resumed.peers;
+    lines
 }
 
 impl Gateway {
@@ -82,7 +107,7 @@ impl Gateway {
         let now = self.post.now();
         // Like an Abort, a Release is sent once: a gateway that was stopped waits for nobody.
         for step in [self.modem.with(|desk| desk.interrupt(now)), self.modem.close(now)] {
-            let log = self.post.carry_out(step);
+            let log = self.post.keep_and_carry_out(&self.modem, step);
             self.log(&log);
         }
         let log = self.post.empty_line();

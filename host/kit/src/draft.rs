@@ -1,8 +1,8 @@
 //! A file that is written whole or not at all: beside its place first, then moved there.
 
+use crate::whole;
 use std::fs::{self, File, OpenOptions};
 use std::io::Write;
-use std::path::Path;
 
 pub struct Draft {
     place: String,
@@ -13,10 +13,7 @@ pub struct Draft {
 impl Draft {
     /// Begins one, so that a place where nothing can be written is known before there is something to write.
     pub fn of(place: &str) -> Result<Draft, String> {
-        let taken = fs::symlink_metadata(place).map_or(false, |found| !found.is_file());
-        if taken || Path::new(place).file_name().is_none() {
-            return Err(format!("{place}: isn't the name of a plain file"));
-        }
+        whole::is_plain(place)?;
         let beside = format!("{place}.{}.part", std::process::id());
         let file = OpenOptions::new().write(true).create_new(true).open(&beside);
         let file = file.map_err(|why| format!("{place}: can't be written: {why}"))?;
@@ -41,6 +38,7 @@ impl Drop for Draft {
 #[cfg(test)]
 mod tests {
     use super::*;
+    use std::path::Path;
 
     /// An empty directory of this name; gives a file's name in it.
     fn place(name: &str) -> String {

@@ -14,6 +14,7 @@ pub mod layout;
 pub mod program;
 mod random;
 pub mod say;
+pub mod whole;
 
 pub use draft::Draft;
 pub use figures::with_commas;

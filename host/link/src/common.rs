@@ -1,7 +1,9 @@
 //! The switches that reader and gateway share.
 
+use crate::keeper::{Keeper, Resumed};
 use crate::line::{Faults, Line};
 use crate::modem::Modem;
+use crate::state::Whose;
 use crate::step::End;
 use crate::wire::Repeats;
 use kit::args::Given;
@@ -10,8 +12,8 @@ use rds::Side;
 use wtp::{Settings, Table};
 
 pub const DEFAULT_ADDRESS: &str = "127.0.0.1:9201";
-pub const VALUED: [&str; 8] =
-    ["--records", "--retries", "--interval", "--loss", "--duplicate", "--delay", "--seed", "--first-tid"];
+pub const VALUED: [&str; 9] =
+    ["--records", "--retries", "--interval", "--loss", "--duplicate", "--delay", "--seed", "--first-tid", "--state"];
 
 pub const FLAGS: [&str; 1] = ["--rds"];
 
@@ -25,7 +27,10 @@ pub const HELP: &str =
   --duplicate PERCENT  so many are sent twice, 0 to 100 (0)
   --delay MS           each is delayed by a random time up to this, 0 to 60000: one may overtake another (0)
   --seed N             seed of loss, duplication, delay and first TID (1)
-  --first-tid N        the TID of the first request, 0 to 32767 (drawn from the seed)";
+  --first-tid N        the TID of the first request, 0 to 32767 (drawn from the seed)
+  --state FILE         keep table, store and what else is needed in FILE, at each event before its datagrams leave, and go on from
+                       it where it is there; its table keeps its records and settings, and what is damaged in it is freed, with a
+                       line for each place; not with --rds (no file)";
 
 const AEC_MAX: u64 = 2;
 const TIDS: u64 = 32_768;
@@ -58,6 +63,15 @@ impl Common {
             first_tid: u16::try_from(first_tid).unwrap_or_default(),
             rds: given.has("--rds"),
         })
+    }
+
+    /// The state file, and what it holds; none where none is asked for.
+    pub fn state(&self, given: &Given, whose: Whose) -> Result<(Option<Keeper>, Option<Resumed>), String> {
+        match given.text("--state")? {
+            None => Ok((None, None)),
+            Some(_) if self.rds => Err("--state can't be used with --rds: the books of ports aren't kept".into()),
+            Some(file) => Keeper::open(file, whose).map(|(keeper, resumed)| (Some(keeper), resumed)),
+        }
     }
 
     /// W, and how long a PDU is repeated until RCR is used up.

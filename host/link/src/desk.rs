@@ -2,6 +2,8 @@
 
 use crate::book::{Book, Entry};
 use crate::head::{self, Head};
+use crate::keeper::{live, Resumed};
+use crate::notes::Notes;
 use crate::open::{OpenList, Stage};
 use crate::payload::{escaped, Sampler};
 use crate::reason;
@@ -32,6 +34,14 @@ impl End for Desk {
         self.datagram(now, packet.peer, &packet.octets)
     }
 
+    fn table(&self) -> &Table {
+        &self.table
+    }
+
+    fn notes(&self) -> Notes {
+        self.open.notes()
+    }
+
     fn next(&self) -> Option<u64> {
         due(&self.table)
     }
@@ -41,6 +51,14 @@ impl Desk {
     /// The table's waiting limit ends what nobody goes on with: a TID that isn't verified, a user who never answers.
     pub fn new(table: Table, book: Book) -> Desk {
         Desk { table, book, open: OpenList::default(), tally: Tally::default() }
+    }
+
+    /// Goes on from what was kept; transactions that were noted and aren't live any more are left out.
+    pub fn resumed(resumed: &Resumed, book: Book) -> Result<Desk, String> {
+        let mut open = OpenList::of(&resumed.notes).map_err(|what| resumed.wrong(&what))?;
+        let live = live(&resumed.table);
+        open.retain(|of| live.contains(&of));
+        Ok(Desk { open, ..Desk::new(resumed.table.clone(), book) })
     }
 
     pub fn datagram(&mut self, now: u64, peer: u16, datagram: &[u8]) -> Step {

@@ -1,12 +1,14 @@
 //! An end behind a modem that speaks the Reliable Data Service: each datagram goes in a UI frame, between ports that are reserved at
 //! the start and released at the end. Without it datagrams go as they are.
 
+use crate::notes::Notes;
 use crate::round::GATEWAY;
 use crate::step::{earliest, End, Packet, Step};
 use crate::wire::{Brought, Due, Repeats, Wire};
 use rds::Side;
 use std::collections::BTreeMap;
 use std::fmt;
+use wtp::Table;
 
 pub struct Modem<E> {
     pub end: E,
@@ -55,6 +57,15 @@ impl<E: End> End for Modem<E> {
             step.append(self.with(|end| end.hear(now, &datagram)));
         }
         step
+    }
+
+    fn table(&self) -> &Table {
+        self.end.table()
+    }
+
+    /// Without the books of the ports: with RDS no state is kept.
+    fn notes(&self) -> Notes {
+        self.end.notes()
     }
 
     /// A reader without its port, or whose port is closed, is to be looked at at once.

@@ -19,6 +19,21 @@ impl Peers {
         known.and_then(|number| u16::try_from(number).ok())
     }
 
+    /// The addresses that were noted, in the order of their numbers.
+    pub fn of(addresses: Vec<SocketAddr>) -> Result<Peers, String> {
+        let most = addresses.len().min(MOST);
+        let twice = (1..most).any(|number| addresses[..number].contains(&addresses[number]));
+        if addresses.len() > MOST || twice {
+            return Err(format!("its notes name {} peers, or one of them twice", addresses.len()));
+        }
+        Ok(Peers(addresses))
+    }
+
+    /// In the order of their numbers.
+    pub fn addresses(&self) -> &[SocketAddr] {
+        &self.0
+    }
+
     pub fn address(&self, peer: u16) -> Option<SocketAddr> {
         self.0.get(usize::from(peer)).copied()
     }
@@ -43,5 +58,15 @@ mod tests {
         assert_eq!(peers.number(address(255)), Some(255));
         assert_eq!((peers.address(255), peers.address(256)), (Some(address(255)), None));
         assert_eq!(peers.count(), 256);
+    }
+
+    #[test]
+    fn peers_that_were_noted_keep_their_numbers() {
+        let address = |port: u16| SocketAddr::from(([127, 0, 0, 1], port));
+        let mut peers = Peers::of(vec![address(7), address(5)]).unwrap();
+        assert_eq!((peers.number(address(5)), peers.number(address(9))), (Some(1), Some(2)));
+        assert_eq!(peers.addresses(), [7, 5, 9].map(address));
+        assert!(Peers::of(vec![address(7), address(7)]).is_err());
+        assert!(Peers::of((0..257).map(address).collect()).is_err());
     }
 }

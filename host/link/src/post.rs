@@ -1,9 +1,11 @@
 //! The UDP socket of a program, with its clock, its line and the numbers of its peers. It sleeps until there is something to do.
 
+use crate::keeper::Keeper;
 use crate::line::Line;
+use crate::notes::Notes;
 use crate::peers::Peers;
 use crate::step::{earliest, End, Packet, Step};
-use kit::interrupt;
+use kit::{interrupt, say};
 use std::io::ErrorKind;
 use std::net::{SocketAddr, ToSocketAddrs, UdpSocket};
 use std::time::{Duration, Instant};
@@ -12,14 +14,20 @@ use std::time::{Duration, Instant};
 const PAUSE: Duration = Duration::from_millis(200);
 /// Any UDP datagram fits, so that one over 1,500 octets is seen as what it is and not cut.
 const LONGEST: usize = 65_536;
+/// What a note begins with: the socket's own address, and the address of each peer in the order of their numbers.
+pub const OWN: &str = "own";
+pub const PEER: &str = "peer";
 
 pub struct Post {
     socket: UdpSocket,
     started: Instant,
+    /// The time at the program's start.
+    base: u64,
     line: Line,
     pub peers: Peers,
     buffer: Vec<u8>,
     waits: u64,
+    keeper: Option<Keeper>,
 }
 
 /// What the socket had.
@@ -44,7 +52,8 @@ impl Post {
         let named = |why| format!("{address} can't be used: {why}");
         let socket = UdpSocket::bind(address).map_err(named)?;
         socket.set_nonblocking(true).map_err(named)?;
-        Ok(Post { socket, started: Instant::now(), line, peers: Peers::default(), buffer: vec![0; LONGEST], waits: 0 })
+        let (started, peers, buffer) = (Instant::now(), Peers::default(), vec![0; LONGEST]);
+        Ok(Post { socket, started, base: 0, line, peers, buffer, waits: 0, keeper: None })
     }
 
     /// A socket that hears only this address, which becomes peer 0.
@@ -65,14 +74,45 @@ impl Post {
         self.socket.local_addr().map_err(|why| format!("the socket has no address: {why}"))
     }
 
-    /// Milliseconds since the program's start.
+    /// Milliseconds since the program's first start, those between an end and the next start left out.
     pub fn now(&self) -> u64 {
-        u64::try_from(self.started.elapsed().as_millis()).unwrap_or(u64::MAX)
+        self.base.saturating_add(u64::try_from(self.started.elapsed().as_millis()).unwrap_or(u64::MAX))
+    }
+
+    /// Goes on from this time on, so that none is below one that was.
+    pub fn go_on_from(&mut self, time: u64) {
+        self.started = Instant::now();
+        self.base = time;
+    }
+
+    /// From now on what the end has become is kept in this file before what it sends leaves; it is so at once, or an error.
+    pub fn keep_in(&mut self, keeper: Option<Keeper>, end: &impl End) -> Result<(), String> {
+        self.keeper = keeper;
+        self.keep(end)
+    }
+
+    /// Whether the file could be written; an error is also that it can be again.
+    fn keep(&mut self, end: &impl End) -> Result<(), String> {
+        if self.keeper.is_none() {
+            return Ok(());
+        }
+        let mut notes = Notes::default();
+        notes.add(OWN, self.local()?);
+        self.peers.addresses().iter().for_each(|address| notes.add(PEER, address));
+        notes.append(end.notes());
+        self.keeper.as_mut().and_then(|keeper| keeper.keep(end.table(), &notes)).map_or(Ok(()), Err)
     }
 
     /// What was sent, and how often the program woke up.
     pub fn summary(&self) -> String {
         format!("{}; woke up {}", self.line, if self.waits == 1 { "once".into() } else { format!("{} times", self.waits) })
+    }
+
+    /// Keeps what this end has become, and then carries out its step. What is to be said about keeping is said at once, also where
+    /// nobody wants to hear of events.
+    pub fn keep_and_carry_out(&mut self, end: &impl End, step: Step) -> Vec<String> {
+        self.keep(end).unwrap_or_else(|line| say::err(&line));
+        self.carry_out(step)
     }
 
     /// Puts a step's packets on the line, sends what leaves by now, and gives back the step's lines and those on sending.
@@ -111,7 +151,7 @@ impl Post {
     /// Carries out what is due at this end; gives back the log's lines.
     pub fn tick(&mut self, end: &mut impl End) -> Vec<String> {
         let step = end.tick(self.now());
-        self.carry_out(step)
+        self.keep_and_carry_out(end, step)
     }
 
     /// Sleeps until something is due at this end or on the line, until the given time if that is earlier, or until a datagram or
@@ -120,7 +160,7 @@ impl Post {
         match self.hear(earliest(&[end.next(), self.line.next(), until])) {
             Heard::Datagram(packet) => {
                 let step = end.hear(self.now(), &packet);
-                self.carry_out(step)
+                self.keep_and_carry_out(end, step)
             }
             // A closed port is only no answer.
             Heard::Nothing | Heard::Closed => Vec::new(),
@@ -147,7 +187,7 @@ impl Post {
 
     /// How long it is until `now` will be this time.
     fn still_to(&self, time: u64) -> Duration {
-        Duration::from_millis(time).saturating_sub(self.started.elapsed())
+        Duration::from_millis(time.saturating_sub(self.base)).saturating_sub(self.started.elapsed())
     }
 
     fn datagram(&mut self, length: usize, from: SocketAddr) -> Heard {

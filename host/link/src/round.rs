@@ -1,9 +1,13 @@
 //! A reader's round: a class 2 request for each sampler, several at a time, until each has its outcome.
 
+use crate::keeper::{live, Resumed};
+use crate::notes::Notes;
 use crate::outcome::{Aborted, Cause, Outcome, Why};
 use crate::payload::Sampler;
 use crate::reason;
+use crate::standing::{Noted, Standing, SAMPLER};
 use crate::step::{due, earliest, End, Packet, Step};
+use std::collections::VecDeque;
 use wtp::{Name, Refused, Role, Shown, Table};
 
 /// The number that a reader has for its gateway.
@@ -32,10 +36,12 @@ pub struct Round {
     manner: Manner,
     samplers: Vec<Sampler>,
     outcomes: Vec<Option<Outcome>>,
-    /// The first sampler that wasn't asked for yet.
-    next: usize,
+    /// The samplers that are still to be asked for.
+    to_ask: VecDeque<usize>,
     asked: Vec<Asked>,
     lingers_until: u64,
+    /// Whether the outcomes were told, so that none needs to be remembered.
+    told: bool,
 }
 
 impl End for Round {
@@ -54,6 +60,18 @@ impl End for Round {
         self.datagram(now, &packet.octets)
     }
 
+    fn table(&self) -> &Table {
+        &self.table
+    }
+
+    /// A line for each sampler until the outcomes were told.
+    fn notes(&self) -> Notes {
+        let mut notes = Notes::default();
+        let samplers = self.samplers.iter().enumerate().filter(|_| !self.told);
+        samplers.for_each(|(place, sampler)| notes.add(SAMPLER, format!("{sampler} {}", self.standing(place))));
+        notes
+    }
+
     /// More samplers are asked for when a record ends, which a deadline or a datagram brings about.
     fn next(&self) -> Option<u64> {
         let late = self.asked.iter().map(|asked| asked.since.saturating_add(self.manner.patience)).min();
@@ -63,8 +81,46 @@ impl End for Round {
 
 impl Round {
     pub fn new(table: Table, samplers: Vec<Sampler>, manner: Manner) -> Round {
-        let outcomes = vec![None; samplers.len()];
-        Round { table, manner, samplers, outcomes, next: 0, asked: Vec::new(), lingers_until: 0 }
+        let (outcomes, to_ask) = (vec![None; samplers.len()], (0..samplers.len()).collect());
+        Round { table, manner, samplers, outcomes, to_ask, asked: Vec::new(), lingers_until: 0, told: false }
+    }
+
+    /// Goes on from what was kept: with the samplers that were noted, or with any where the outcomes of the last ones were told. A
+    /// sampler whose record isn't live any more is asked for again.
+    pub fn resumed(resumed: &Resumed, samplers: Vec<Sampler>, manner: Manner) -> Result<Round, String> {
+        let noted: Vec<Noted> = resumed.notes.values(SAMPLER).map_err(|what| resumed.wrong(&what))?;
+        let live = live(&resumed.table);
+        let lingers_until = resumed.clock().saturating_add(manner.linger);
+        let mut round = Round { lingers_until, ..Round::new(resumed.table.clone(), samplers, manner) };
+        if noted.is_empty() {
+            return Ok(round);
+        }
+        if !noted.iter().map(|noted| &noted.sampler).eq(&round.samplers) {
+            return Err(resumed.wrong("is of a round that isn't over, with other samplers"));
+        }
+        for (place, Noted { standing, .. }) in noted.into_iter().enumerate() {
+            match standing {
+                Standing::Asked { tid, since } if live.contains(&name(tid)) => round.asked.push(Asked { tid, place, since }),
+                Standing::Known(outcome) => round.outcomes[place] = Some(outcome),
+                Standing::Asked { .. } | Standing::ToAsk => continue,
+            }
+            round.to_ask.retain(|waiting| *waiting != place);
+        }
+        Ok(round)
+    }
+
+    /// The outcomes were told: the next start is another round.
+    pub fn told(&mut self) {
+        self.told = true;
+    }
+
+    fn standing(&self, place: usize) -> Standing {
+        let asked = self.asked.iter().find(|asked| asked.place == place);
+        match (&self.outcomes[place], asked) {
+            (Some(outcome), _) => Standing::Known(outcome.clone()),
+            (None, Some(Asked { tid, since, .. })) => Standing::Asked { tid: *tid, since: *since },
+            (None, None) => Standing::ToAsk,
+        }
     }
 
     pub fn datagram(&mut self, now: u64, datagram: &[u8]) -> Step {
@@ -89,7 +145,7 @@ impl Round {
         for asked in std::mem::take(&mut self.asked) {
             self.abort(now, asked.tid, reason::STOPPED, &mut step);
         }
-        self.next = self.samplers.len();
+        self.to_ask.clear();
         for outcome in &mut self.outcomes {
             outcome.get_or_insert(Outcome::NoAnswer(why));
         }
@@ -119,17 +175,17 @@ impl Round {
     }
 
     fn ask_more(&mut self, now: u64, step: &mut Step) {
-        while let Some(sampler) = self.samplers.get(self.next) {
-            let taken = self.table.request(now, GATEWAY, 2, self.manner.user_ack, &sampler.request());
+        while let Some(place) = self.to_ask.front().copied() {
+            let taken = self.table.request(now, GATEWAY, 2, self.manner.user_ack, &self.samplers[place].request());
             match taken.as_ref().map(|taken| taken.tid) {
                 // A record ends sooner or later, so it is tried again.
                 Err(Refused::TableFull | Refused::TidInUse) => return,
-                Ok(Some(tid)) => self.asked.push(Asked { tid, place: self.next, since: now }),
-                Ok(None) => self.finish(self.next, Outcome::NoAnswer(Why::NotAsked(Refused::Unreadable))),
-                Err(why) => self.finish(self.next, Outcome::NoAnswer(Why::NotAsked(*why))),
+                Ok(Some(tid)) => self.asked.push(Asked { tid, place, since: now }),
+                Ok(None) => self.finish(place, Outcome::NoAnswer(Why::NotAsked(Refused::Unreadable))),
+                Err(why) => self.finish(place, Outcome::NoAnswer(Why::NotAsked(*why))),
             }
             step.take(GATEWAY, taken);
-            self.next += 1;
+            self.to_ask.pop_front();
         }
     }
 

@@ -1,5 +1,6 @@
 //! What a reader or a gateway does with one event: packets to send, and lines that say what happened.
 
+use crate::notes::Notes;
 use wtp::{codec, Deadline, Refused, Shown, Table, Taken};
 
 /// A datagram for a peer.
@@ -22,6 +23,12 @@ pub trait End {
 
     /// What a datagram brings.
     fn hear(&mut self, now: u64, packet: &Packet) -> Step;
+
+    /// The table, and with `notes` all that it needs to go on after it was cut off.
+    fn table(&self) -> &Table;
+
+    /// What it must remember beside its table.
+    fn notes(&self) -> Notes;
 
     /// When `tick` has something to do again if nothing is heard: it may be slept until then, and for ever where there is none.
     fn next(&self) -> Option<u64>;

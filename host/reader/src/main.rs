@@ -11,14 +11,18 @@ use kit::args::{Given, Switches};
 use kit::program::{Program, WRONG_ARGUMENTS};
 use kit::{interrupt, say, Draft};
 use link::common::{self, Common};
+use link::keeper::Resumed;
+use link::line::Line;
 use link::modem::Modem;
 use link::outcome::{Outcome, Why};
 use link::post::{self, Post};
-use link::round::{Manner, Round};
+use link::round::{Manner, Round, GATEWAY};
+use link::state::Whose;
 use link::step::Step;
 use progress::Progress;
 use rds::Side;
 use samplers::Scanned;
+use std::net::SocketAddr;
 use std::process::ExitCode;
 
 const HELP: &str = "\
@@ -33,8 +37,9 @@ transaction, several at a time, and prints a line for each, with one of four out
 Then comes a summary. Ctrl-C ends the waiting: what has no outcome yet is shown as NO ANSWER.
 
 Switches, with their defaults:
-  --gateway ADDRESS    the gateway's address and port (127.0.0.1:9201)
-  --from ADDRESS       the reader's own address and port: a gateway knows it by these again after a restart (a free port)
+  --gateway ADDRESS    the gateway's address and port (127.0.0.1:9201, or that of the state file)
+  --from ADDRESS       the reader's own address and port: a gateway knows it by these again after a restart (a free port, or that of
+                       the state file)
   --patience MS        how long a sampler may take, 1 to 86400000 (3 times (retries + 1) intervals)
   --csv FILE           write the outcomes to FILE too, whole or not at all, in place of an earlier one (no file); its columns
                        are sampler,site,outcome,value,detail, and the value is filled for VALUE alone
@@ -43,7 +48,7 @@ Switches, with their defaults:
 const HELP_END: &str = "  --help               this text
 
 Exit status: 0 each sampler has a value or an empty result, 1 not so, also after Ctrl-C, 2 wrong arguments or a wrong file,
-also where the CSV file can't be written.
+also where the CSV file can't be written; a state file that can't be used stays as it was.
 
 Example: reader --gateway 127.0.0.1:9201 --loss 20 --duplicate 20 --delay 60 host/examples/samplers.csv";
 
@@ -69,18 +74,42 @@ fn prepare(given: &Given) -> Result<Reader, String> {
     let common = Common::of(given, RECORDS)?;
     let linger = common.last_repeat();
     let patience = given.number("--patience", linger.saturating_mul(3), 1..=86_400_000)?;
-    let address = post::address(given.text("--gateway")?.unwrap_or(common::DEFAULT_ADDRESS))?;
+    let [gateway, from] = [given.text("--gateway")?, given.text("--from")?].map(|text| text.map(post::address).transpose());
     let [file] = given.all_names(["SAMPLERS.csv"])?;
     let samplers = samplers::read(file)?;
     let manner = Manner { user_ack: !given.has("--no-user-ack"), patience, linger };
     let asked = samplers.iter().map(|scanned| scanned.sampler.clone()).collect();
-    let modem = common.modem(Round::new(common.table(patience)?, asked, manner), Side::Ue);
-    let post = match given.text("--from")? {
-        Some(own) => Post::between(post::address(own)?, address, common.line())?,
-        None => Post::towards(address, common.line())?,
+    let (keeper, resumed) = common.state(given, Whose::Reader)?;
+    let round = match &resumed {
+        Some(resumed) => Round::resumed(resumed, asked, manner)?,
+        None => Round::new(common.table(patience)?, asked, manner),
     };
+    let modem = common.modem(round, Side::Ue);
+    let mut post = connected(from?, gateway?, resumed.as_ref(), common.line())?;
     let csv = given.text("--csv")?.map(|csv| draft(csv, file)).transpose()?;
+    for line in resumed.map_or_else(Vec::new, |resumed| go_on(&mut post, &resumed)) {
+        say::err(&format!("reader: {line}"));
+    }
+    post.keep_in(keeper, &modem)?;
     Ok(Reader { post, modem, samplers, progress: Progress::new(), csv })
+}
+
+/// From the address that was given or kept, so that the gateway knows the reader again, to the gateway that was given or kept.
+fn connected(from: Option<SocketAddr>, gateway: Option<SocketAddr>, kept: Option<&Resumed>, line: Line) -> Result<Post, String> {
+    let gateway = match gateway.or_else(|| kept.and_then(|kept| kept.peers.address(GATEWAY))) {
+        Some(address) => address,
+        None => post::address(common::DEFAULT_ADDRESS)?,
+    };
+    match from.or_else(|| kept.map(|kept| kept.own)) {
+        Some(own) => Post::between(own, gateway, line),
+        None => Post::towards(gateway, line),
+    }
+}
+
+/// Gives the post the time that was kept; what is to be said is given back.
+fn go_on(post: &mut Post, resumed: &Resumed) -> Vec<String> {
+    post.go_on_from(resumed.clock());
+    resumed.lines()
 }
 
 /// The outcomes must not take the place of the samplers.
@@ -100,6 +129,9 @@ impl Reader {
         }
         self.stop();
         let status = self.tell();
+        // What was told needn't be remembered: the next start is another round.
+        self.modem.end.told();
+        self.carry_out(Step::default());
         while !self.round().is_over(self.post.now()) && !self.modem.has_failed() && !interrupt::stopped() {
             self.turn();
         }
@@ -130,7 +162,7 @@ impl Reader {
     }
 
     fn carry_out(&mut self, step: Step) {
-        let log = self.post.carry_out(step);
+        let log = self.post.keep_and_carry_out(&self.modem, step);
         self.log(&log);
     }
 

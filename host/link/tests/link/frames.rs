@@ -7,11 +7,13 @@ use link::book::{Book, Entry};
 use link::desk::Desk;
 use link::line::{Faults, Line};
 use link::modem::{Modem, Tally};
+use link::notes::Notes;
 use link::outcome::{Outcome, Why};
 use link::round::{Round, GATEWAY};
 use link::step::{earliest, End, Packet, Step};
 use link::wire::{Repeats, APPLICATION, GATEWAY_PORT, READER_PORT};
 use rds::Side;
+use wtp::Table;
 
 const REPEATS: Repeats = Repeats { after: INTERVAL, times: 8 };
 const READER: u16 = 9;
@@ -30,6 +32,14 @@ impl<E: End> End for Counted<E> {
     fn hear(&mut self, now: u64, packet: &Packet) -> Step {
         self.heard += 1;
         self.end.hear(now, packet)
+    }
+
+    fn table(&self) -> &Table {
+        self.end.table()
+    }
+
+    fn notes(&self) -> Notes {
+        self.end.notes()
     }
 
     fn next(&self) -> Option<u64> {

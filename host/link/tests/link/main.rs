@@ -1,6 +1,7 @@
 //! Tests of reader and gateway together.
 
 mod conversation;
+mod cut;
 mod frames;
 mod hostile;
 mod sleeping;

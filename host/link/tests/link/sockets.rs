@@ -87,6 +87,17 @@ fn a_wait_ends_at_its_time_and_is_counted() {
 }
 
 #[test]
+fn time_goes_on_from_what_was_kept_and_so_does_a_wait() {
+    let mut post = Post::bind(free(), line()).unwrap();
+    post.go_on_from(1_000_000);
+    let start = post.now();
+    assert!((1_000_000..1_001_000).contains(&start));
+    assert_eq!(post.hear(Some(start + 20)), Heard::Nothing);
+    assert!(post.now() >= start + 20);
+    assert_eq!(post.hear(Some(20)), Heard::Nothing, "a time that has passed isn't waited for");
+}
+
+#[test]
 fn the_257th_peer_is_refused_and_the_others_are_still_heard() {
     let mut post = Post::bind(free(), line()).unwrap();
     (0..256).for_each(|port| assert!(post.peers.number(SocketAddr::from(([127, 0, 0, 2], port))).is_some()));
