@@ -5,15 +5,15 @@ use Prim.Native.Nat.{ℕ, _+_, _*_}
 abbrev pub headerSize : ℕ
 headerSize = 624
 
--- docs/TABLE.md: the octets of a record; 25 of fields, 23 spare, 128 of exit information
+-- docs/TABLE.md: the octets of a record; 29 of fields, 19 spare, 128 of exit information
 abbrev pub recordSize : ℕ
 recordSize = 176
 
 abbrev pub fieldsSize : ℕ
-fieldsSize = 25
+fieldsSize = 29
 
 abbrev pub spareSize : ℕ
-spareSize = 23
+spareSize = 19
 
 -- docs/TABLE.md: where a field of the header begins
 abbrev pub clockAt : ℕ
@@ -92,8 +92,11 @@ limitOffset = 20
 abbrev pub unknownOffset : ℕ
 unknownOffset = 24
 
+abbrev pub sentOffset : ℕ
+sentOffset = 25
+
 abbrev pub spareOffset : ℕ
-spareOffset = 25
+spareOffset = 29
 
 abbrev pub exitOffset : ℕ
 exitOffset = 48

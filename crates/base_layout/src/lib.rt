@@ -1,14 +1,14 @@
 // The sizes, offsets and bounds of the table and of document 01, each once for code; specs/Layout.antt has them for specs, since these are two languages.
 // A contract that names the one holds it equal to the other. docs/TABLE.md shows the octets.
 
-// The header, and a record: 25 octets of fields, 23 spare, 128 of exit information.
+// The header, and a record: 29 octets of fields, 19 spare, 128 of exit information.
 pub const HEADER_SIZE: usize = 624;
 
 pub const RECORD_SIZE: usize = FIELDS_SIZE + SPARE_SIZE + EXIT_BOUND;
 
-pub const FIELDS_SIZE: usize = 25;
+pub const FIELDS_SIZE: usize = 29;
 
-pub const SPARE_SIZE: usize = 23;
+pub const SPARE_SIZE: usize = 19;
 
 // Where a field of the header begins.
 pub const CLOCK_AT: usize = 0;
@@ -57,6 +57,8 @@ pub const LEN_OFFSET: usize = 16;
 pub const LIMIT_OFFSET: usize = 20;
 
 pub const UNKNOWN_OFFSET: usize = 24;
+
+pub const SENT_OFFSET: usize = 25;
 
 pub const SPARE_OFFSET: usize = FIELDS_SIZE;
 

@@ -7,7 +7,7 @@ use mathlib.Core.Bool.{Bool, true, false}
 use lib.ListN.{length}
 use Rattle.base_layout.specs.Layout.{recordSize, base, peers, exitBound}
 use Rattle.base_lists.proofs.StoresAndParts.{true-false}
-use Rattle.table_layout.specs.Table.{count, settingsOf, recordAt, putRecord}
+use Rattle.table_layout.specs.Table.{count, recordAt, putRecord}
 use Rattle.table_layout.proofs.Put.{record-same}
 use Rattle.table_record_ok.specs.OneRecord.{Live}
 use Rattle.table_well_formed.specs.WellFormed.{WellFormed}
@@ -40,7 +40,7 @@ module _ (t : List ℕ) (place : ℕ) (w : WellFormed t) (h : place < count t) w
   unfolding recordChanged ChangeOk
   live-after Nothing ok = true-false ok
   live-after (Put r) ok =
-      let e : recordAt (putRecord t place r) place ≡ r = record-same t place r (room t place w h) (range-fits (settingsOf t) r (ok .0)) in
+      let e : recordAt (putRecord t place r) place ≡ r = record-same t place r (room t place w h) (range-fits t r w (ok .0)) in
       rw e (ok .0 .live)
   live-after Clear ok = true-false ok
 

@@ -14,7 +14,7 @@ use Rattle.base_octets.proofs.StoredAndRead.{length-enc, getD-same}
 use Rattle.table_record.specs.Record.{stateOf, octetsOf}
 use Rattle.table_record.specs.declared.State.the-variants.{Free}
 use Rattle.table_record.specs.declared.Record.{Record}
-use Rattle.table_layout.specs.Table.{genTidOf, tidnewDueOf, cachedOf, settingsOf, recordAt, putRecord, clearRecord, putGenTid, putTidnewDue, putCached, putClock}
+use Rattle.table_layout.specs.Table.{genTidOf, tidnewDueOf, cachedOf, recordAt, putRecord, clearRecord, putGenTid, putTidnewDue, putCached, putClock}
 use Rattle.table_layout.proofs.Apart.{gen-tid-apart, tidnew-due-apart, cached-apart, record-apart}
 use Rattle.table_layout.proofs.Put.{record-same, gen-tid-same, tidnew-due-same, cached-same}
 use Rattle.table_record_ok.proofs.States.{state-octet}
@@ -172,7 +172,7 @@ module _ (t : List ℕ) (c : Changes) (exit : List ℕ) (w : WellFormed t) (ok :
   unfolding recordChanged ChangeOk
   put-left r e =
       let k : ChangeOk t (c .place) (Put r) (c .exit) = rw e at (ok .change) in
-      at-place ∙ (ap (λ (x : Change). recordHere (recordChanged t (c .place) x)) e ∙ record-same t (c .place) r room (range-fits (settingsOf t) r (k .0)))
+      at-place ∙ (ap (λ (x : Change). recordHere (recordChanged t (c .place) x)) e ∙ record-same t (c .place) r room (range-fits t r w (k .0)))
 
   pub cleared-left : c .change ≡ Clear → recordHere (tableChanged t c exit) .state ≡ Free
   unfolding recordChanged clearRecord stateOf

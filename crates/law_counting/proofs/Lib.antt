@@ -3,3 +3,4 @@ pub mod Sums
 pub mod Turns
 pub mod Shows
 pub mod Aborts
+pub mod Charged

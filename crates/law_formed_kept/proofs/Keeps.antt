@@ -2,22 +2,23 @@
 use mathlib.Core.Path.{_≡_, refl, sym, _∙_}
 use mathlib.Core.List.{List}
 use mathlib.Core.Logic.{inl, inr}
-use Prim.Native.Nat.{ℕ, _+_, _≤_, _<_}
+use Prim.Native.Nat.{ℕ, _+_, _^_, _≤_, _<_}
 use native.Mathlib.Omega.{arith}
 use lib.ListN.{length, getD, replicate, getD-replicate}
-use Rattle.base_layout.specs.Layout.{recordSize, fieldsSize, spareSize, spareOffset, base, flagsAt, spareBase, exitBase, exitBound}
+use Rattle.base_layout.specs.Layout.{recordSize, fieldsSize, spareSize, spareOffset, base, flagsAt, spareBase, exitBase, exitBound, maximumBound}
 use Rattle.base_lists.specs.Seq.{put}
 use Rattle.base_octets.specs.Octets.{enc}
 use Rattle.base_octets.proofs.StoredAndRead.{getD-before, getD-after, getD-same}
-use Rattle.table_record.specs.Record.{octetsOf, flagsOf, Fits}
+use Rattle.table_record.specs.Record.{roleOf, octetsOf, flagsOf, Fits}
+use Rattle.table_record.specs.declared.Role.{Role}
+use Rattle.table_record.specs.declared.Role.the-variants.{Initiator, Responder}
 use Rattle.table_record.specs.declared.Record.{Record}
 use Rattle.table_record.proofs.Back.{length-octets, flags-small}
 use Rattle.table_layout.specs.Table.{count, settingsOf, recordAt, putRecord, clearRecord}
-use Rattle.table_layout.specs.declared.Settings.{Settings}
 use Rattle.table_layout.proofs.Apart.{record-apart}
 use Rattle.table_layout.proofs.Put.{record-same}
 use Rattle.table_ranges.specs.Ranges.{Zeros}
-use Rattle.table_record_ok.specs.OneRecord.{Live, InRange, LiveOk, RecordOk}
+use Rattle.table_record_ok.specs.OneRecord.{Live, sentBound, InRange, LiveOk, RecordOk}
 use Rattle.table_record_ok.proofs.RecordTest.{live-of}
 use Rattle.table_well_formed.specs.WellFormed.{WellFormed}
 use Rattle.table_well_formed.proofs.Lengths.{room}
@@ -25,9 +26,19 @@ use Rattle.table_names_ok.specs.Names.{SameName}
 use Rattle.law_formed_kept.specs.UnusedName.{Unused}
 use Rattle.law_formed_kept.proofs.InRecord.{store-keeps}
 
+sent-fits : (role : Role) (rcrMax : ℕ) → rcrMax ≤ maximumBound → sentBound role rcrMax < 2 ^ 32
+sent-fits Initiator rcrMax h = omega arith
+sent-fits Responder rcrMax h = omega arith
+
 -- a record in range has room in its octets
-pub range-fits : (s : Settings) (r : Record) → InRange s r → Fits r
-range-fits s r h = record { tid = omega (arith, h .bounds); deadline = omega (arith, h .bounds); len = omega (arith, h .bounds); limit = omega (arith, h .bounds) }
+pub range-fits : (t : List ℕ) (r : Record) → WellFormed t → InRange (settingsOf t) r → Fits r
+range-fits t r w h = record {
+  tid = omega (arith, h .bounds);
+  deadline = omega (arith, h .bounds);
+  len = omega (arith, h .bounds);
+  limit = omega (arith, h .bounds);
+  sent = omega (arith, h .bounds .sent, sent-fits (roleOf (r .state)) (settingsOf t .«rcr_max») (w .header .settings .rcr-max));
+}
 
 -- the spare octets of any record of a well-formed table are zero
 spare-of : (t : List ℕ) (i : ℕ) → RecordOk t (settingsOf t) i → Zeros t (spareBase i) spareSize
@@ -51,7 +62,7 @@ unfolding putRecord
 put-keeps t i r f l g u =
     let n : length (octetsOf r) ≡ fieldsSize = length-octets r in
     let long : base i + recordSize ≤ length t = room t (f .sized) i l in
-    let e : recordAt (put t (base i) (octetsOf r)) i ≡ r = record-same t i r long (range-fits (settingsOf t) r g) in
+    let e : recordAt (put t (base i) (octetsOf r)) i ≡ r = record-same t i r long (range-fits t r f g) in
     let b : getD (put t (base i) (octetsOf r)) (flagsAt i) 0 ≡ flagsOf r = getD-same (octetsOf r) t (base i) 6 (omega arith) (omega arith) ∙ flags-octet r in
     store-keeps t i (base i) (octetsOf r) (omega arith) (omega arith) f
     (inr (

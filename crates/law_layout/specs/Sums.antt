@@ -1,7 +1,7 @@
 -- The layout and the bounds once more: where each field begins, by the octets of those before it, and each bound by what it comes from.
 use Prim.Native.Nat.{ℕ, _+_, _*_}
 use mathlib.Core.Path.{_≡_}
-use Rattle.base_layout.specs.Layout.{headerSize, recordSize, clockAt, genTidAt, rcrMaxAt, aecMaxAt, aAt, wAt, row1At, row2At, limitAt, modesAt, tidnewDueAt, headerSpareAt, headerSpareSize, cachedAt, peerOffset, tidOffset, rcrOffset, aecOffset, flagsOffset, exitLenOffset, deadlineOffset, lenOffset, limitOffset, unknownOffset, spareOffset, spareSize, exitOffset, exitBound, timeBound, intervalBound, deadlineBound, tidBound, tidCount, cachedBound, peerBound, peers, cellSize, outputLeast, stateBound, flagsBound}
+use Rattle.base_layout.specs.Layout.{headerSize, recordSize, clockAt, genTidAt, rcrMaxAt, aecMaxAt, aAt, wAt, row1At, row2At, limitAt, modesAt, tidnewDueAt, headerSpareAt, headerSpareSize, cachedAt, peerOffset, tidOffset, rcrOffset, aecOffset, flagsOffset, exitLenOffset, deadlineOffset, lenOffset, limitOffset, unknownOffset, sentOffset, spareOffset, spareSize, exitOffset, exitBound, timeBound, intervalBound, deadlineBound, tidBound, tidCount, cachedBound, peerBound, peers, cellSize, outputLeast, stateBound, flagsBound}
 
 -- docs/TABLE.md, the header: clock 8 octets, GenTID 2, RCR_MAX 1, AEC_MAX 1, A 4, W 4, two rows of nine intervals of 4, the waiting limit 4, modes 1, TIDnew due 1, spare, 256 cached TIDs of 2
 pub record HeaderAdds : Type 0 where
@@ -19,7 +19,7 @@ pub record HeaderAdds : Type 0 where
   pub cached : cachedAt ≡ headerSpareAt + headerSpareSize
   pub whole : headerSize ≡ cachedAt + peers * 2
 
--- docs/TABLE.md, a record: state 1 octet, peer 1, TID 2, RCR 1, AEC 1, flags 1, length of the exit information 1, deadline 8, length of the message 4, waiting limit in force 4, identity of an unknown item 1, spare, exit information
+-- docs/TABLE.md, a record: state 1 octet, peer 1, TID 2, RCR 1, AEC 1, flags 1, length of the exit information 1, deadline 8, length of the message 4, waiting limit in force 4, identity of an unknown item 1, octets sent 4, spare, exit information
 pub record RecordAdds : Type 0 where
   pub peer : peerOffset ≡ 1
   pub tid : tidOffset ≡ peerOffset + 1
@@ -31,7 +31,8 @@ pub record RecordAdds : Type 0 where
   pub len : lenOffset ≡ deadlineOffset + 8
   pub limit : limitOffset ≡ lenOffset + 4
   pub unknown : unknownOffset ≡ limitOffset + 4
-  pub spare : spareOffset ≡ unknownOffset + 1
+  pub sent : sentOffset ≡ unknownOffset + 1
+  pub spare : spareOffset ≡ sentOffset + 4
   pub exit : exitOffset ≡ spareOffset + spareSize
   pub whole : recordSize ≡ exitOffset + exitBound
 

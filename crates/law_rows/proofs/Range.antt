@@ -4,13 +4,15 @@ use native.Mathlib.Omega.{arith}
 use mathlib.Core.Path.{_≡_, refl}
 use mathlib.Core.Bool.{Bool, true, false, Bool·beq}
 use mathlib.Core.List.{List, [], _∷_}
-use borrow.Author.Tests.{ltb-true, lt-ltb}
+use borrow.Author.Tests.{ltb-true, lt-ltb, eqb-true}
 use lib.Dec.{ltb, eqb}
 use lib.ListN.{getD}
 use Rattle.base_layout.specs.Layout.{intervalBound, deadlineBound, tidBound, peers, exitBound, cellSize}
 use Rattle.base_lists.specs.Seq.{pick, bit, every}
-use Rattle.base_lists.proofs.StoresAndParts.{bit-le}
-use Rattle.table_record.specs.Record.{stateOf, roleOf, classOf}
+use Rattle.base_lists.proofs.StoresAndParts.{bit-le, both-fst, both-snd}
+use Rattle.table_record.specs.Record.{stateOf, roleOf, classOf, roleNumber, sentMost}
+use Rattle.table_record.specs.declared.Role.{Role}
+use Rattle.table_record.specs.declared.Role.the-variants.{Initiator, Responder}
 use Rattle.table_record.specs.declared.State.{State}
 use Rattle.table_record.specs.declared.Record.{Record}
 use Rattle.table_record.specs.declared.Rcr.{Rcr}
@@ -35,10 +37,11 @@ use Rattle.row_columns.specs.declared.ExitInfo.the-variants as ExitInfo
 use Rattle.row_columns.specs.declared.Act.{Act}
 use Rattle.row_entries.specs.Acts.{actOf, openingAct}
 use Rattle.table_tids.specs.Tids.{intervalOf}
-use Rattle.row_turns.specs.Turns.{upOf, rcrAfter, aecAfter, exitLenAfter, lenAfter, stoppedAt, deadlineAfter, limitAfter, unknownAfter, newRecord, movedTo, recordAfter, turnOf, rowTurn, openingTurn}
+use Rattle.row_turns.specs.Turns.{upOf, rcrAfter, aecAfter, exitLenAfter, lenAfter, stoppedAt, deadlineAfter, limitAfter, unknownAfter, costOf, sentAfter, newRecord, movedTo, recordAfter, turnOf, rowTurn, openingTurn}
 use Rattle.row_turns.specs.declared.Given.{Given}
+use Rattle.row_turns.proofs.Costs.{costs-nothing}
 use Rattle.law_rows.specs.Shown.{actAt, livingState}
-use Rattle.table_record_ok.specs.OneRecord.{tidnewBound, Bounded}
+use Rattle.table_record_ok.specs.OneRecord.{tidnewBound, sentBound, Bounded}
 use Rattle.law_rows.specs.Range.{Within}
 use Rattle.law_rows.proofs.Rows.{same-self, keeps-role}
 
@@ -107,6 +110,51 @@ unknown-within : (item : Bool) (was came : ℕ) → UnknownOk was → UnknownOk 
 unknown-within true was came h k = k
 unknown-within false was came h k = h
 
+-- the role of the record that an act leaves live
+abbrev pub roleThen : Next → State → Role
+roleThen Stays s = roleOf s
+roleThen Ends s = Initiator
+roleThen (Goes t) s = roleOf t
+
+abbrev isResponder : Role → Bool
+isResponder role = eqb (roleNumber role) (roleNumber Responder)
+
+responder-is : (role : Role) → isResponder role ≡ true → role ≡ Responder
+responder-is Initiator e = absurd (omega (arith, eqb-true 0 1 e))
+responder-is Responder e = refl
+
+-- a record that is left as a responder's was one, and its row sends nothing that counts
+module _ (kind reason : ℕ) (tidok : Bool) where
+  unpaid : State → Event → Conditions → Bool
+  unpaid s e c =
+      let a : Act = actAt s e c tidok kind reason in
+      pick (isResponder (roleThen (a .next) s)) (pick (isResponder (roleOf s)) (eqb (costOf (a .send) 0) 0) false) true
+
+  rows-unpaid : (s : State) (e : Event) (c : Conditions) → roleThen (actAt s e c tidok kind reason .next) s ≡ Responder
+      → (roleOf s ≡ Responder) × (eqb (costOf (actAt s e c tidok kind reason .send) 0) 0 ≡ true)
+  unfolding unpaid every stateOf rowOf actOf actWith taken acked stored shown
+  rows-unpaid s e c is =
+      let a : Act = actAt s e c tidok kind reason in
+      let both = rw is at (at-state unpaid refl s e c) in
+      (responder-is (roleOf s) (both-fst (isResponder (roleOf s)) (eqb (costOf (a .send) 0) 0) both), both-snd (isResponder (roleOf s)) (eqb (costOf (a .send) 0) 0) both)
+
+-- and so is one that an opening makes a responder's
+openings-unpaid : (o : Opening) (s : State) → roleThen (openingAct o .next) s ≡ Responder → eqb (costOf (openingAct o .send) 0) 0 ≡ true
+unfolding every openingAct actWith stored shown
+openings-unpaid o s is = rw is at (at-opening (λ x. pick (isResponder (roleThen (openingAct x .next) s)) (eqb (costOf (openingAct x .send) 0) 0) true) refl o)
+
+-- the count stops at its most, and a responder's stays 0
+sent-within : (role : Role) (sum max : ℕ) → (role ≡ Responder → sum ≡ 0) → sentAfter sum (sentMost max) ≤ sentBound role max
+unfolding sentAfter
+sent-within Initiator sum max unpaid = go (ltb sum (sentMost max)) refl
+  where
+    go : (b : Bool) → ltb sum (sentMost max) ≡ b → pick b sum (sentMost max) ≤ sentMost max
+    go true e = omega (arith, ltb-true sum (sentMost max) e)
+    go false e = omega arith
+sent-within Responder sum max unpaid =
+    let some : 0 < sentMost max = omega arith in
+    rw (unpaid refl, lt-ltb 0 (sentMost max) some) (omega arith)
+
 module _ (g : Given) (s : Settings) (rows : List (List ℕ)) (within : Within g s rows) where
   interval-within : (class : ℕ) (n : Rcr) → intervalOf rows class n ≤ intervalBound
   unfolding intervalOf
@@ -141,12 +189,15 @@ module _ (g : Given) (s : Settings) (rows : List (List ℕ)) (within : Within g 
   pub new-in-range : (peer tid : ℕ) (userAck tidnew : Bool) → peer < peers → tid ≤ tidBound → Bounded s (newRecord peer tid userAck tidnew)
   unfolding newRecord
   new-in-range peer tid userAck tidnew p t =
-      record { tid = t; rcr = omega arith; aec = omega arith; exit = omega arith; deadline = omega arith; message = omega arith; tidnew = bit-le tidnew; limit = omega arith; unknown = none refl; peer = p }
+      record { tid = t; rcr = omega arith; aec = omega arith; exit = omega arith; deadline = omega arith; message = omega arith; tidnew = bit-le tidnew; limit = omega arith; unknown = none refl; sent = omega arith; peer = p }
 
   module _ (r : Record) (a : Act) (ok : Bounded s r) (counts : allowed (a .count) (ltb (r .rcr .0) (s .«rcr_max»)) (ltb (r .aec .0) (s .«aec_max»)) ≡ true) where
-    moved-in-range : (state : State) → bit (r .tidnew) ≤ tidnewBound (roleOf state) → Bounded s (movedTo state a r g s rows)
+    abbrev sum : ℕ
+    sum = r .sent + costOf (a .send) (lenAfter (a .cell) (r .len) (g .len))
+
+    moved-in-range : (state : State) → bit (r .tidnew) ≤ tidnewBound (roleOf state) → (roleOf state ≡ Responder → sum ≡ 0) → Bounded s (movedTo state a r g s rows)
     unfolding movedTo
-    moved-in-range state tidnew = record {
+    moved-in-range state tidnew unpaid = record {
       tid = ok .tid;
       rcr = rcr-within (a .count) (r .rcr) (s .«rcr_max») (ltb (r .aec .0) (s .«aec_max»)) counts (ok .rcr);
       aec = aec-within (a .count) (r .aec) (s .«aec_max») (ltb (r .rcr .0) (s .«rcr_max»)) counts (ok .aec);
@@ -156,14 +207,15 @@ module _ (g : Given) (s : Settings) (rows : List (List ℕ)) (within : Within g 
       tidnew = tidnew;
       limit = limit-within (a .timer) (r .limit) (ok .limit);
       unknown = unknown-within (a .item) (r .unknown) (g .unknown) (ok .unknown) (within .unknown);
+      sent = sent-within (roleOf state) sum (s .«rcr_max») unpaid;
       peer = ok .peer;
     }
 
-    after-in-range : (n : Next) → bit (r .tidnew) ≤ tidnewBound (roleOf (livingState n (r .state))) → Bounded s (recordAfter n a r g s rows)
+    after-in-range : (n : Next) → bit (r .tidnew) ≤ tidnewBound (roleOf (livingState n (r .state))) → (roleThen n (r .state) ≡ Responder → sum ≡ 0) → Bounded s (recordAfter n a r g s rows)
     unfolding recordAfter
-    after-in-range Stays tidnew = moved-in-range (r .state) tidnew
-    after-in-range Ends tidnew = new-in-range 0 0 false false (omega arith) (omega arith)
-    after-in-range (Goes state) tidnew = moved-in-range state tidnew
+    after-in-range Stays tidnew unpaid = moved-in-range (r .state) tidnew unpaid
+    after-in-range Ends tidnew unpaid = new-in-range 0 0 false false (omega arith) (omega arith)
+    after-in-range (Goes state) tidnew unpaid = moved-in-range state tidnew unpaid
 
   -- a live record under the row for its own conditions
   pub turn-in-range : (e : Event) (r : Record) → Bounded s r → Bounded s (rowTurn (rowOf (r .state) e (conditionsOf s r)) r g s rows .after)
@@ -172,10 +224,15 @@ module _ (g : Given) (s : Settings) (rows : List (List ℕ)) (within : Within g 
       let a = actAt (r .state) e (conditionsOf s r) (r .«tidok_sent») (g .kind) (g .reason) in
       after-in-range r a ok (counts-allowed (g .kind) (g .reason) (r .«tidok_sent») e s r) (a .next)
       (rw (keeps-role (g .kind) (g .reason) (r .«tidok_sent») (r .state) e (conditionsOf s r)) (ok .tidnew))
+      (λ is.
+      let free = rows-unpaid (g .kind) (g .reason) (r .«tidok_sent») (r .state) e (conditionsOf s r) is in
+      let nothing : r .sent ≤ 0 = rw (free .0) at (ok .sent) in
+      omega (arith, nothing, costs-nothing (a .send) (lenAfter (a .cell) (r .len) (g .len)) (free .1)))
 
-  -- a new record under an opening, with TIDnew only where that opens an initiator's
-  pub opening-in-range : (o : Opening) (r : Record) → Bounded s r → bit (r .tidnew) ≤ tidnewBound (roleOf (livingState (openingAct o .next) (r .state))) → Bounded s (openingTurn o r g s rows .after)
+  -- a new record, which has sent nothing, under an opening, with TIDnew only where that opens an initiator's
+  pub opening-in-range : (o : Opening) (r : Record) → Bounded s r → r .sent ≡ 0 → bit (r .tidnew) ≤ tidnewBound (roleOf (livingState (openingAct o .next) (r .state))) → Bounded s (openingTurn o r g s rows .after)
   unfolding openingTurn turnOf every openingAct actWith stored shown
-  opening-in-range o r ok tidnew =
+  opening-in-range o r ok new tidnew =
       let counts : Opening → Bool = λ x. allowed (openingAct x .count) (ltb (r .rcr .0) (s .«rcr_max»)) (ltb (r .aec .0) (s .«aec_max»)) in
       after-in-range r (openingAct o) ok (at-opening counts refl o) (openingAct o .next) tidnew
+      (λ is. omega (arith, new, costs-nothing (openingAct o .send) (lenAfter (openingAct o .cell) (r .len) (g .len)) (openings-unpaid o (r .state) is)))

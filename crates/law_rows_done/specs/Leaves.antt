@@ -1,10 +1,10 @@
--- What a row leaves and shows, as numbers: the record's deadline, counters and identity of an unknown item, and the type and reason of an abort.
-use Prim.Native.Nat.{ℕ, _+_, _-_, _≤_}
+-- What a row leaves and shows, as numbers: the record's deadline, counters, identity of an unknown item and octets sent, and the type and reason of an abort.
+use Prim.Native.Nat.{ℕ, _+_, _*_, _-_, _≤_}
 use mathlib.Core.Path.{_≡_}
 use mathlib.Core.Bool.{Bool, false}
 use mathlib.Core.List.{List, []}
 use lib.ListN.{getD}
-use lib.Dec.{ltb}
+use lib.Dec.{ltb, leb}
 use Rattle.base_lists.specs.Seq.{pick}
 use Rattle.table_record.specs.Record.{classOf, stateNumber}
 use Rattle.table_record.specs.declared.Record.{Record}
@@ -101,6 +101,23 @@ abbrev pub unknownBy : Next → (takes : Bool) (was came : ℕ) → ℕ
 unknownBy Stays takes was came = pick takes came was
 unknownBy Ends takes was came = 0
 unknownBy (Goes state) takes was came = pick takes came was
+
+-- what a row, and an opening, adds to the octets that its request has sent, n the length of its data
+abbrev pub costBy : Row → (tidok : Bool) (n : ℕ) → ℕ
+costBy row tidok n = listed sameRow (Live.costLines tidok n) row 0
+
+abbrev pub openingCost : Opening → (n : ℕ) → ℕ
+openingCost opening n = listed sameOpening (Opening.costLines n) opening 0
+
+-- the lesser of two
+abbrev pub least : ℕ → ℕ → ℕ
+least a b = pick (leb a b) a b
+
+-- 02, L11: "the sum of those PDUs' lengths", "at most (1 + RCR_MAX) times (4 + n)", n at most 1,024: on a made-up table it stops there; a record that ended has none
+abbrev pub sentBy : Next → (was cost : ℕ) → Settings → ℕ
+sentBy Stays was cost s = least (was + cost) ((1 + s .«rcr_max») * (4 + 1024))
+sentBy Ends was cost s = 0
+sentBy (Goes state) was cost s = least (was + cost) ((1 + s .«rcr_max») * (4 + 1024))
 
 -- "the reason sent, or 8 if none is sent"
 abbrev pub reasonSent : Send → ℕ

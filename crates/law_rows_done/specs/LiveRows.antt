@@ -1,5 +1,5 @@
 -- Document 01, "Events", its bullets read column by column: what each row of a live record does, a list a column. Rows stand in document 01's order.
-use Prim.Native.Nat.{ℕ}
+use Prim.Native.Nat.{ℕ, _+_}
 use mathlib.Core.Bool.{Bool, true, false}
 use mathlib.Core.List.{List, [], _∷_}
 use Rattle.base_lists.specs.Seq.{pick}
@@ -218,6 +218,15 @@ abbrev pub itemLines : List (List Row × Bool)
 itemLines =
     -- 02, L4: "The record keeps that identity from [..] the Result it took"
     (ResultConfirms ∷ ResultTaken ∷ [], true) ∷
+    []
+
+-- 02, L11: what a row adds to "the bytes it sent before its result", n the length of the request's data; "the Abort PDU aside", and the Acks come after the result
+abbrev pub costLines : (tidok : Bool) (n : ℕ) → List (List Row × ℕ)
+costLines tidok n =
+    -- "send TIDok": three octets
+    (TidokSent ∷ [], 3) ∷
+    -- "resend TIDok if one was sent, else Invoke": the Invoke four octets and its data
+    (Resent ∷ [], pick tidok 3 (4 + n)) ∷
     []
 
 -- what document 01 says that a row does. What no list names stays: "A repeat sets RID and alters nothing else", "ignored", and 9 changes nothing

@@ -1,4 +1,5 @@
 -- Document 01, "Events", read column by column: what a request, and a PDU without a live record, does, a list a column.
+use Prim.Native.Nat.{ℕ, _+_}
 use mathlib.Core.Bool.{Bool, true, false}
 use mathlib.Core.List.{List, [], _∷_}
 use Rattle.table_record.specs.declared.State.the-variants.{IResultWait1, IResultWait2, RTidokWait1, RTidokWait2, RInvokeRespWait1, RInvokeRespWait2}
@@ -104,6 +105,13 @@ abbrev pub itemLines : List (List Opening × Bool)
 itemLines =
     -- 02, L4: "The record keeps that identity from the Invoke that opened it", shown at once or verified first
     (Valid1 ∷ Valid2 ∷ ToVerify1 ∷ ToVerify2 ∷ Restarted1 ∷ Restarted2 ∷ [], true) ∷
+    []
+
+-- 02, L11: what the record that is opened has sent, n the length of the request's data
+abbrev pub costLines : (n : ℕ) → List (List Opening × ℕ)
+costLines n =
+    -- "Request: send Invoke", of class 1 and 2: four octets and its data
+    (Requested1 ∷ Requested2 ∷ [], 4 + n) ∷
     []
 
 -- what document 01 says that it does; what no list names opens no record ("class 0 ends", "without record", "ignored"), and no opening has an answer's exit information or a second indication

@@ -124,7 +124,7 @@ module _ (t : List ℕ) (w : WellFormed t) (opening : Opening) (h : Holder) (g :
   unfolding openedTurn newRecord
   opened-bounded =
       let in-bounds : Within g (settingsOf t) (intervalsOf t) = within t g w ok in
-      opening-in-range g (settingsOf t) (intervalsOf t) in-bounds opening _ (new-in-range g (settingsOf t) (intervalsOf t) in-bounds (h .peer) (h .tid) (h .up) (h .tidnew) peer tid) tidnew
+      opening-in-range g (settingsOf t) (intervalsOf t) in-bounds opening _ (new-in-range g (settingsOf t) (intervalsOf t) in-bounds (h .peer) (h .tid) (h .up) (h .tidnew) peer tid) refl tidnew
 
   module _ (unused : 1 ≤ stateNumber (opened .state) → Unused t (h .place) opened) where
     opened-ok : (b : Bool) → eqb (stateNumber (opened .state)) 0 ≡ b → ChangeOk t (h .place) (pick b Change.Nothing (Change.Put opened)) false

@@ -43,6 +43,7 @@ in-state state r = record {
   len = r .len;
   limit = r .limit;
   unknown = r .unknown;
+  sent = r .sent;
 }
 
 module _ (g : Given) (s : Settings) (rows : List (List ℕ)) (rcr-max : s .«rcr_max» ≤ 8) (aec-max : s .«aec_max» ≤ 8) (on : 1 ≤ s .limit) where

@@ -5,7 +5,7 @@ use mathlib.Core.List.{List, []}
 use lib.ListN.{getD}
 use lib.Dec.{ltb, eqb}
 use Rattle.base_lists.specs.Seq.{pick}
-use Rattle.table_record.specs.Record.{classOf}
+use Rattle.table_record.specs.Record.{classOf, sentMost}
 use Rattle.table_record.specs.declared.State.{State}
 use Rattle.table_record.specs.declared.State.the-variants.{Free}
 use Rattle.table_record.specs.declared.Rcr.{Rcr}
@@ -24,6 +24,8 @@ use Rattle.row_columns.specs.declared.Mark.{Mark}
 use Rattle.row_columns.specs.declared.Mark.the-variants as Mark
 use Rattle.row_columns.specs.declared.ExitInfo.{ExitInfo}
 use Rattle.row_columns.specs.declared.ExitInfo.the-variants as ExitInfo
+use Rattle.row_columns.specs.declared.Send.{Send}
+use Rattle.row_columns.specs.declared.Send.the-variants as Send
 use Rattle.row_columns.specs.declared.Act.{Act}
 use Rattle.row_entries.specs.Acts.{actOf, openingAct}
 use Rattle.table_tids.specs.Tids.{intervalOf}
@@ -87,6 +89,21 @@ lenAfter cell was given = pick cell given was
 abbrev pub unknownAfter : Bool → ℕ → ℕ → ℕ
 unknownAfter item was came = pick item came was
 
+-- 02, L11: "the bytes it sent before its result, class 1 confirmation or abort [..], the Abort PDU aside": what a PDU of RESULT WAIT adds, an Invoke four octets and its data, a TIDok three
+abbrev pub costOf : Send → ℕ → ℕ
+costOf Send.Nothing len = 0
+costOf (Send.Invoke again) len = 4 + len
+costOf (Send.Tidok again) len = 3
+costOf (Send.LastAck again) len = 0
+costOf (Send.HoldOn again) len = 0
+costOf (Send.Tidve again) len = 0
+costOf (Send.Result again) len = 0
+costOf (Send.Abort kind reason) len = 0
+
+-- 02, L11, "at most (1 + RCR_MAX) times (4 + n)": no run passes the most that a record may count, and on a made-up table the count stops there
+unfoldable pub sentAfter : ℕ → ℕ → ℕ
+sentAfter sum most = pick (ltb sum most) sum most
+
 -- 01: "stop timer", "no timer": a deadline of 0 is none
 abbrev pub noTimer : ℕ
 noTimer = 0
@@ -129,6 +146,7 @@ newRecord peer tid userAck tidnew = record {
   len = 0;
   limit = 0;
   unknown = 0;
+  sent = 0;
 }
 
 -- the record in its next state; peer, TID, user acknowledgement and TIDnew never change, and R[RCR] takes RCR as the row leaves it
@@ -149,6 +167,7 @@ movedTo state a r g s rows = record {
   len = lenAfter (a .cell) (r .len) (g .len);
   limit = limitAfter (a .timer) (r .limit) (s .limit);
   unknown = unknownAfter (a .item) (r .unknown) (g .unknown);
+  sent = sentAfter (r .sent + costOf (a .send) (lenAfter (a .cell) (r .len) (g .len))) (sentMost (s .«rcr_max»));
 }
 
 -- 01, "Events": the state that a row leaves, and whether it ends the record

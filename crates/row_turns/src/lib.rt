@@ -1,10 +1,10 @@
 // A turn: the right-hand side of a row applied to a record.
 ghost use mathlib.Core.Path.{_≡_};
-ghost use Prim.Native.Nat.{_≤_};
+ghost use Prim.Native.Nat.{_+_, _≤_};
 ghost use lib.ListN.{length};
 ghost use Rattle.base_layout.specs.Layout.{headerSize, timeBound};
 ghost use Rattle.table_layout.specs.Table.{intervalsOf};
-ghost use Rattle.row_turns.specs.Turns.{upOf, rcrAfter, aecAfter, holdOnAfter, tidokSentAfter, holdOnSentAfter, exitLenAfter, storesExit, lenAfter, stoppedAt, deadlineAfter, limitAfter, unknownAfter, newRecord, movedTo, stateAfter, endsBy, recordAfter, turnOf};
+ghost use Rattle.row_turns.specs.Turns.{upOf, rcrAfter, aecAfter, holdOnAfter, tidokSentAfter, holdOnSentAfter, exitLenAfter, storesExit, lenAfter, stoppedAt, deadlineAfter, limitAfter, unknownAfter, costOf, sentAfter, newRecord, movedTo, stateAfter, endsBy, recordAfter, turnOf};
 use row_columns::Act;
 use row_columns::Cache;
 use row_columns::Count;
@@ -174,6 +174,30 @@ fn unknown_after(item: bool, was: u8, came: u8) -> u8
     if item { came } else { was }
 }
 
+// What a PDU adds to the octets that a request has sent: an Invoke four and its data, a TIDok three.
+fn cost_of(send: Send, len: u32) -> u64
+    ensures { λ n. ⌜ n ≡ costOf send len ⌝ }
+{
+    match send {
+        Send::Nothing => 0,
+        Send::Invoke(_) => 4 + len as u64,
+        Send::Tidok(_) => 3,
+        Send::LastAck(_) => 0,
+        Send::HoldOn(_) => 0,
+        Send::Tidve(_) => 0,
+        Send::Result(_) => 0,
+        Send::Abort(_, _) => 0,
+    }
+}
+
+// The octets that a request has sent; on a made-up table the count stops at its most.
+fn sent_after(send: Send, len: u32, was: u32, most: u32) -> u32
+    ensures { λ n. ⌜ n ≡ sentAfter (was + costOf send len) most ⌝ }
+{
+    let sum = was as u64 + cost_of(send, len);
+    if sum < most as u64 { sum as u32 } else { most }
+}
+
 // The record that an opening starts from; with zeros, a free record.
 pub fn new_record(peer: u8, tid: u16, user_ack: bool, tidnew: bool) -> Record
     ensures { λ r. ⌜ r ≡ newRecord peer tid «user_ack» tidnew ⌝ }
@@ -194,6 +218,7 @@ pub fn new_record(peer: u8, tid: u16, user_ack: bool, tidnew: bool) -> Record
         len: 0,
         limit: 0,
         unknown: 0,
+        sent: 0,
     }
 }
 
@@ -206,6 +231,7 @@ fn moved_to(state: State, a: Act, r: Record, g: Given, s: Settings, t: &[u8]) ->
     let mark = a.mark;
     let timer = a.timer;
     let exit = a.exit;
+    let send = a.send;
     let was_rcr = r.rcr;
     let was_aec = r.aec;
     let rcr = rcr_after(count, was_rcr);
@@ -221,6 +247,8 @@ fn moved_to(state: State, a: Act, r: Record, g: Given, s: Settings, t: &[u8]) ->
     let len = len_after(a.cell, r.len, g.len);
     let limit = limit_after(timer, r.limit, s.limit);
     let unknown = unknown_after(a.item, r.unknown, g.unknown);
+    let most = table_record::sent_most(s.rcr_max);
+    let sent = sent_after(send, len, r.sent, most);
     Record {
         state: state,
         peer: r.peer,
@@ -237,6 +265,7 @@ fn moved_to(state: State, a: Act, r: Record, g: Given, s: Settings, t: &[u8]) ->
         len: len,
         limit: limit,
         unknown: unknown,
+        sent: sent,
     }
 }
 

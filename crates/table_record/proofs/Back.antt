@@ -59,4 +59,4 @@ pub decoded-back : (r : Record) → Fits r → decoded (octetsOf r) ≡ r
 unfolding decoded octetsOf enc gets flagsOf
 decoded-back r h =
     let f = flags-back (r .«user_ack») (r .«hold_on») (r .«tidok_sent») (r .«hold_on_sent») (r .tidnew) in
-    simp (state-back (r .state), num-enc 2 (r .tid) (h .tid), num-enc 8 (r .deadline) (h .deadline), num-enc 4 (r .len) (h .len), num-enc 4 (r .limit) (h .limit), f .0, f .1, f .2, f .3, f .4)
+    simp (state-back (r .state), num-enc 2 (r .tid) (h .tid), num-enc 8 (r .deadline) (h .deadline), num-enc 4 (r .len) (h .len), num-enc 4 (r .limit) (h .limit), num-enc 4 (r .sent) (h .sent), f .0, f .1, f .2, f .3, f .4)

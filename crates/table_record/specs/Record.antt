@@ -3,7 +3,7 @@ use Prim.Native.Nat.{ℕ, _+_, _*_, _%_, _/_, _^_, _<_}
 use mathlib.Core.List.{List, [], _∷_, _++_}
 use lib.ListN.{getD}
 use lib.Dec.{eqb}
-use Rattle.base_layout.specs.Layout.{peerOffset, tidOffset, rcrOffset, aecOffset, flagsOffset, exitLenOffset, deadlineOffset, lenOffset, limitOffset, unknownOffset, tidCount}
+use Rattle.base_layout.specs.Layout.{peerOffset, tidOffset, rcrOffset, aecOffset, flagsOffset, exitLenOffset, deadlineOffset, lenOffset, limitOffset, unknownOffset, sentOffset, tidCount, outputLeast}
 use Rattle.base_lists.specs.Seq.{pick, bit}
 use Rattle.base_octets.specs.Octets.{num, enc, gets}
 use Rattle.table_record.specs.declared.Role.{Role}
@@ -86,11 +86,15 @@ abbrev pub rcvTid : Role → ℕ → ℕ
 rcvTid Initiator tid = tid + tidCount
 rcvTid Responder tid = tid
 
+-- 02, L11: "at most (1 + RCR_MAX) times (4 + n)", and an Invoke with 1,024 octets of data has 1,028: the most that a record may count
+abbrev pub sentMost : ℕ → ℕ
+sentMost rcrMax = (1 + rcrMax) * outputLeast
+
 -- the five flags in one octet
 unfoldable pub flagsOf : Record → ℕ
 flagsOf r = bit (r .«user_ack») + 2 * bit (r .«hold_on») + 4 * bit (r .«tidok_sent») + 8 * bit (r .«hold_on_sent») + 16 * bit (r .tidnew)
 
--- the fields of 25 octets: state, peer, TID, RCR, AEC, flags, length of the exit information, deadline, message length, waiting limit in force, identity of an unknown item
+-- the fields of 29 octets: state, peer, TID, RCR, AEC, flags, length of the exit information, deadline, message length, waiting limit in force, identity of an unknown item, octets sent
 unfoldable pub decoded : List ℕ → Record
 decoded w = record {
   state = stateOf (getD w 0 0);
@@ -108,13 +112,14 @@ decoded w = record {
   len = num (gets 4 lenOffset w);
   limit = num (gets 4 limitOffset w);
   unknown = getD w unknownOffset 0;
+  sent = num (gets 4 sentOffset w);
 }
 
--- the 25 octets of a record
+-- the 29 octets of a record
 unfoldable pub octetsOf : Record → List ℕ
 octetsOf r =
     (stateNumber (r .state) ∷ r .peer ∷ [])
-    ++ (enc 2 (r .tid) ++ ((r .rcr .0 ∷ r .aec .0 ∷ flagsOf r ∷ r .«exit_len» ∷ []) ++ (enc 8 (r .deadline) ++ (enc 4 (r .len) ++ (enc 4 (r .limit) ++ (r .unknown ∷ []))))))
+    ++ (enc 2 (r .tid) ++ ((r .rcr .0 ∷ r .aec .0 ∷ flagsOf r ∷ r .«exit_len» ∷ []) ++ (enc 8 (r .deadline) ++ (enc 4 (r .len) ++ (enc 4 (r .limit) ++ (r .unknown ∷ enc 4 (r .sent)))))))
 
 -- the numbers of a record have room in these octets
 pub record Fits (r : Record) : Type 0 where
@@ -122,3 +127,4 @@ pub record Fits (r : Record) : Type 0 where
   pub deadline : r .deadline < 2 ^ 64
   pub len : r .len < 2 ^ 32
   pub limit : r .limit < 2 ^ 32
+  pub sent : r .sent < 2 ^ 32

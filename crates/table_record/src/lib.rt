@@ -3,7 +3,7 @@ ghost use mathlib.Core.Path.{_≡_};
 ghost use Prim.Native.Nat.{_+_, _*_, _≤_, _<_};
 ghost use lib.ListN.{length};
 ghost use Rattle.base_layout.specs.Layout.{fieldsSize, tidCount};
-ghost use Rattle.table_record.specs.Record.{roleOf, classOf, stateNumber, stateOf, flagsOf, decoded, octetsOf, sendTid, rcvTid};
+ghost use Rattle.table_record.specs.Record.{roleOf, classOf, stateNumber, stateOf, flagsOf, sentMost, decoded, octetsOf, sendTid, rcvTid};
 use base_tids::RcvTid;
 use base_tids::SendTid;
 
@@ -36,7 +36,7 @@ pub struct Rcr(pub u8);
 pub struct Aec(pub u8);
 
 // A record without its exit information, which stays in the table. The deadline 0 is no timer; `limit` is the waiting limit that the deadline is, 0 where it is none;
-// `unknown` the identity of the unknown item that its Acks name, 0 none.
+// `unknown` the identity of the unknown item that its Acks name, 0 none; `sent` the octets that a request sent before its result.
 pub struct Record {
     pub state: State,
     pub peer: u8,
@@ -53,6 +53,7 @@ pub struct Record {
     pub len: u32,
     pub limit: u32,
     pub unknown: u8,
+    pub sent: u32,
 }
 
 pub fn role_of(s: State) -> Role
@@ -154,6 +155,13 @@ pub fn rcv_tid(role: Role, tid: u16) -> RcvTid
     }
 }
 
+// The most that a record may have sent: 1 + RCR_MAX Invokes with full data.
+pub fn sent_most(rcr_max: u8) -> u32
+    ensures { λ n. ⌜ n ≡ sentMost «rcr_max» ⌝ }
+{
+    (1 + rcr_max as u32) * (base_layout::OUTPUT_LEAST as u32)
+}
+
 fn flags_of(r: Record) -> u8
     ensures { λ f. ⌜ f ≡ flagsOf r ⌝ }
 {
@@ -164,7 +172,7 @@ fn flags_of(r: Record) -> u8
         + 16 * base_lists::bit(r.tidnew)
 }
 
-// The record of 25 octets.
+// The record of 29 octets.
 pub fn decode(w: &[u8]) -> Record
     requires { ⌜ fieldsSize ≤ length (now w) ⌝ }
     ensures { λ r. ⌜ r ≡ decoded (now (w .entry)) ⌝ }
@@ -187,10 +195,11 @@ pub fn decode(w: &[u8]) -> Record
         len: base_octets::get32(w, base_layout::LEN_OFFSET),
         limit: base_octets::get32(w, base_layout::LIMIT_OFFSET),
         unknown: w[base_layout::UNKNOWN_OFFSET],
+        sent: base_octets::get32(w, base_layout::SENT_OFFSET),
     }
 }
 
-// The 25 octets of a record.
+// The 29 octets of a record.
 pub fn encode(r: Record) -> [u8; base_layout::FIELDS_SIZE]
     ensures { λ w. ⌜ w ≡ octetsOf r ⌝ }
 {
@@ -200,6 +209,7 @@ pub fn encode(r: Record) -> [u8; base_layout::FIELDS_SIZE]
     let d = base_octets::bytes64(r.deadline);
     let l = base_octets::bytes32(r.len);
     let m = base_octets::bytes32(r.limit);
+    let n = base_octets::bytes32(r.sent);
     let f = flags_of(r);
     [
         s,
@@ -227,5 +237,9 @@ pub fn encode(r: Record) -> [u8; base_layout::FIELDS_SIZE]
         m[2],
         m[3],
         r.unknown,
+        n[0],
+        n[1],
+        n[2],
+        n[3],
     ]
 }

@@ -35,13 +35,14 @@ bounds-to s r h =
       tidnew = leb-true _ _ (e .1 .1 .1 .1 .1 .1 .0);
       limit = leb-true _ _ (e .1 .1 .1 .1 .1 .1 .1 .0);
       unknown = unknown-to _ (e .1 .1 .1 .1 .1 .1 .1 .1 .0);
-      peer = omega (arith, leb-true (r .peer) peerBound (e .1 .1 .1 .1 .1 .1 .1 .1 .1));
+      sent = leb-true _ _ (e .1 .1 .1 .1 .1 .1 .1 .1 .1 .0);
+      peer = omega (arith, leb-true (r .peer) peerBound (e .1 .1 .1 .1 .1 .1 .1 .1 .1 .1));
     }
 
 bounds-from : (s : Settings) (r : Record) → Bounded s r → inRange s r ≡ true
 unfolding inRange
 bounds-from s r h =
-    all (rangeTests s r) (le-leb _ _ (h .tid), (le-leb _ _ (h .rcr), (le-leb _ _ (h .aec), (le-leb _ _ (h .exit), (le-leb _ _ (h .deadline), (le-leb _ _ (h .message), (le-leb _ _ (h .tidnew), (le-leb _ _ (h .limit), (unknown-from _ (h .unknown), le-leb (r .peer) peerBound (omega (arith, h .peer)))))))))))
+    all (rangeTests s r) (le-leb _ _ (h .tid), (le-leb _ _ (h .rcr), (le-leb _ _ (h .aec), (le-leb _ _ (h .exit), (le-leb _ _ (h .deadline), (le-leb _ _ (h .message), (le-leb _ _ (h .tidnew), (le-leb _ _ (h .limit), (unknown-from _ (h .unknown), (le-leb _ _ (h .sent), le-leb (r .peer) peerBound (omega (arith, h .peer))))))))))))
 
 live-to : (t : List ℕ) (s : Settings) (i : ℕ) → 1 ≤ getD t (base i) 0 → liveOk t s i ≡ true → LiveOk t s i
 unfolding liveOk

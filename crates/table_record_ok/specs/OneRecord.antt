@@ -7,7 +7,7 @@ use lib.ListN.{getD}
 use lib.Dec.{leb, eqb}
 use Rattle.base_layout.specs.Layout.{recordSize, spareSize, base, flagsAt, spareBase, intervalBound, deadlineBound, tidBound, peerBound, peers, exitBound, cellSize, stateBound, flagsBound}
 use Rattle.base_lists.specs.Seq.{pick, bit}
-use Rattle.table_record.specs.Record.{stateNumber, roleOf}
+use Rattle.table_record.specs.Record.{stateNumber, roleOf, sentMost}
 use Rattle.table_record.specs.declared.Role.{Role}
 use Rattle.table_record.specs.declared.Role.the-variants.{Initiator, Responder}
 use Rattle.table_record.specs.declared.Record.{Record}
@@ -24,6 +24,11 @@ abbrev pub tidnewBound : Role → ℕ
 tidnewBound Initiator = 1
 tidnewBound Responder = 0
 
+-- 02, L11, "at most (1 + RCR_MAX) times (4 + n)": what an initiator's record may have counted; a responder's counts nothing
+abbrev pub sentBound : Role → ℕ → ℕ
+sentBound Initiator rcrMax = sentMost rcrMax
+sentBound Responder rcrMax = 0
+
 -- 01: "RCR and AEC to their maxima, deadlines to the time bound plus 86,400,000", and the bounds of TIDs, exit information and messages
 pub record Bounded (s : Settings) (r : Record) : Type 0 where
   pub tid : r .tid ≤ tidBound
@@ -37,6 +42,7 @@ pub record Bounded (s : Settings) (r : Record) : Type 0 where
   pub limit : r .limit ≤ intervalBound
   -- 02, L4: "The record keeps that identity", 6 to 15, and 0 where there was none
   pub unknown : UnknownOk (r .unknown)
+  pub sent : r .sent ≤ sentBound (roleOf (r .state)) (s .«rcr_max»)
   pub peer : r .peer < peers
 
 -- 01: "all fields are in range (a state for its role and class, ..)": a live record within its bounds
@@ -69,6 +75,7 @@ rangeTests s r =
     ∷ leb (bit (r .tidnew)) (tidnewBound (roleOf (r .state)))
     ∷ leb (r .limit) intervalBound
     ∷ unknownOk (r .unknown)
+    ∷ leb (r .sent) (sentBound (roleOf (r .state)) (s .«rcr_max»))
     ∷ leb (r .peer) peerBound
     ∷ []
 

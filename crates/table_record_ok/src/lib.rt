@@ -7,7 +7,7 @@ ghost use Rattle.base_layout.specs.Layout.{headerSize, recordSize, spareSize, s
 ghost use Rattle.base_lists.specs.Seq.{bit};
 ghost use Rattle.table_record.specs.Record.{roleOf};
 ghost use Rattle.table_ranges.specs.Ranges.{zeros};
-ghost use Rattle.table_record_ok.specs.OneRecord.{tidnewBound, inRange, liveOk, recordOk};
+ghost use Rattle.table_record_ok.specs.OneRecord.{tidnewBound, sentBound, inRange, liveOk, recordOk};
 use base_layout::HEADER_SIZE;
 use base_layout::RECORD_SIZE;
 use table_layout::Settings;
@@ -46,6 +46,23 @@ fn tidnew_ok(r: Record) -> bool
     base_lists::bit(r.tidnew) <= bound
 }
 
+// Only an initiator counts what it sends.
+fn sent_bound(role: Role, rcr_max: u8) -> u32
+    ensures { λ n. ⌜ n ≡ sentBound role «rcr_max» ⌝ }
+{
+    match role {
+        Role::Initiator => table_record::sent_most(rcr_max),
+        Role::Responder => 0u32,
+    }
+}
+
+fn sent_ok(s: Settings, r: Record) -> bool
+    ensures { λ b. ⌜ b ≡ leb (r .sent) (sentBound (roleOf (r .state)) (s .«rcr_max»)) ⌝ }
+{
+    let state = r.state;
+    r.sent <= sent_bound(table_record::role_of(state), s.rcr_max)
+}
+
 fn in_range(s: Settings, r: Record) -> bool
     ensures { λ b. ⌜ b ≡ inRange s r ⌝ }
 {
@@ -74,6 +91,9 @@ fn in_range(s: Settings, r: Record) -> bool
         return false;
     }
     if !table_ranges::unknown_ok(r.unknown) {
+        return false;
+    }
+    if !sent_ok(s, r) {
         return false;
     }
     r.peer <= PEER_BOUND

@@ -10,5 +10,5 @@ moved-to-spec =
     tie.close (tie.spec
     (λ c κs. search needs) (λ c κs. search needs) (λ c κs. search needs) (λ c κs. search needs) (λ c κs. search needs)
     (λ c κs. search needs) (λ c κs. search needs) (λ c κs. search needs) (λ c κs. search needs) (λ c κs. search needs)
-    (λ c κs. search needs) (λ c κs. search needs) (λ c κs. search needs)
-    (λ c. simp (c .unknown-after .ensures, c .before .limit-after .ensures, c .before .before .len-after .ensures, c .before .before .before .deadline-after .ensures, c .before .before .before .before .interval .ensures, c .before .before .before .before .before .intervals-of .ensures, c .before .before .before .before .before .before .class-of .ensures, c .before .before .before .before .before .before .before .exit-len-after .ensures, c .before .before .before .before .before .before .before .before .hold-on-sent-after .ensures, c .before .before .before .before .before .before .before .before .before .tidok-sent-after .ensures, c .before .before .before .before .before .before .before .before .before .before .hold-on-after .ensures, c .before .before .before .before .before .before .before .before .before .before .before .aec-after .ensures, c .before .before .before .before .before .before .before .before .before .before .before .before .rcr-after .ensures)))
+    (λ c κs. search needs) (λ c κs. search needs) (λ c κs. search needs) (λ c κs. search needs) (λ c κs. search needs)
+    (λ c. simp (c .sent-after .ensures, c .before .sent-most .ensures, c .before .before .unknown-after .ensures, c .before .before .before .limit-after .ensures, c .before .before .before .before .len-after .ensures, c .before .before .before .before .before .deadline-after .ensures, c .before .before .before .before .before .before .interval .ensures, c .before .before .before .before .before .before .before .intervals-of .ensures, c .before .before .before .before .before .before .before .before .class-of .ensures, c .before .before .before .before .before .before .before .before .before .exit-len-after .ensures, c .before .before .before .before .before .before .before .before .before .before .hold-on-sent-after .ensures, c .before .before .before .before .before .before .before .before .before .before .before .tidok-sent-after .ensures, c .before .before .before .before .before .before .before .before .before .before .before .before .hold-on-after .ensures, c .before .before .before .before .before .before .before .before .before .before .before .before .before .aec-after .ensures, c .before .before .before .before .before .before .before .before .before .before .before .before .before .before .rcr-after .ensures)))

@@ -10,5 +10,5 @@ decode-spec =
     tie.close (tie.spec
     (λ c. search needs) (λ c. search needs) (λ c κs. search needs) (λ c. search needs) (λ c κs. search needs)
     (λ c. search needs) (λ c. search needs) (λ c. search needs) (λ c κs. search needs) (λ c κs. search needs)
-    (λ c κs. search needs) (λ c. search needs)
-    (λ c. simp (c .before .get322 .ensures, c .before .before .get32 .ensures, c .before .before .before .get64 .ensures, c .before .before .before .before .before .before .before .get16 .ensures, c .before .before .before .before .before .before .before .before .before .state-of .ensures)))
+    (λ c κs. search needs) (λ c. search needs) (λ c κs. search needs)
+    (λ c. simp (c .get323 .ensures, c .before .before .get322 .ensures, c .before .before .before .get32 .ensures, c .before .before .before .before .get64 .ensures, c .before .before .before .before .before .before .before .before .get16 .ensures, c .before .before .before .before .before .before .before .before .before .before .state-of .ensures)))

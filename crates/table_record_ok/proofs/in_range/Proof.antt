@@ -34,6 +34,9 @@ past8 c = passes 7 _ (past7 (c .before .before)) (le-leb _ _ (c .if8 .left))
 past9 : (c : tie.Else9) → Passed 9 (rangeTests (c .before .before .before .before .before .before .before .before .before .before .before .before .before .before .before .before .before .before .before .before .args .s) (c .before .before .before .before .before .before .before .before .before .before .before .before .before .before .before .before .before .before .before .before .args .r))
 past9 c = passes 8 _ (past8 (c .before .before)) (held (c .before .unknown-ok .ensures) (c .if9 .left))
 
+past10 : (c : tie.Else10) → Passed 10 (rangeTests (c .before .before .before .before .before .before .before .before .before .before .before .before .before .before .before .before .before .before .before .before .before .before .args .s) (c .before .before .before .before .before .before .before .before .before .before .before .before .before .before .before .before .before .before .before .before .before .before .args .r))
+past10 c = passes 9 _ (past9 (c .before .before)) (held (c .before .sent-ok .ensures) (c .if10 .left))
+
 pub in-range-spec : {M : Type 1} → statement M
 unfolding inRange
 in-range-spec =
@@ -50,4 +53,6 @@ in-range-spec =
     (λ c. fails 7 _ (past7 (c .before .before)) (lt-leb _ _ (c .if8 .taken)))
     (λ c κs. search needs)
     (λ c. fails 8 _ (past8 (c .before .before)) (broke (c .before .unknown-ok .ensures) (c .if9 .taken)))
-    (λ c. decides 9 _ _ (past9 (c .before)) refl refl))
+    (λ c κs. search needs)
+    (λ c. fails 9 _ (past9 (c .before .before)) (broke (c .before .sent-ok .ensures) (c .if10 .taken)))
+    (λ c. decides 10 _ _ (past10 (c .before)) refl refl))

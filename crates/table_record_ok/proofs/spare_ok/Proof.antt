@@ -13,14 +13,14 @@ use Rattle.table_record_ok.proofs.spare_ok.Tie as tie
 returns : tie.Need-returns
 returns c =
     let a = c .before .before .before .args in
-    rw (broke (c .before .zero-words .ensures) (c .if1 .taken)) at (zeros-cover (now (a .t)) (spareBase (a .i)) 16 15 8 (omega arith) (omega arith))
+    rw (broke (c .before .zero-words .ensures) (c .if1 .taken)) at (zeros-cover (now (a .t)) (spareBase (a .i)) 16 11 8 (omega arith) (omega arith))
 
 returns-2 : tie.Need-returns-2
 returns-2 c =
     let a = c .before .before .before .before .args in
-    let last : spareBase (a .i) + 15 ≡ base (a .i) + 40 = omega arith in
+    let last : spareBase (a .i) + 11 ≡ base (a .i) + 40 = omega arith in
     rw (c .get64 .ensures, num-zeros 8 (base (a .i) + 40) (now (a .t)))
-    (rw (held (c .before .before .zero-words .ensures) (c .before .if1 .left), last) at (zeros-cover (now (a .t)) (spareBase (a .i)) 16 15 8 (omega arith) (omega arith)))
+    (rw (held (c .before .before .zero-words .ensures) (c .before .if1 .left), last) at (zeros-cover (now (a .t)) (spareBase (a .i)) 16 11 8 (omega arith) (omega arith)))
 
 pub spare-ok-spec : {M : Type 1} → statement M
 spare-ok-spec =
