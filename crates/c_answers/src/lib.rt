@@ -1,21 +1,31 @@
-// The words that the C interface has for the answer of an engine call: 32 of the turn, and 8 that the requests of document 02 added.
+// The words that the C interface has for the answer of an engine call: 32 of the turn, two of what its record has sent, and six that the requests of document 02 added.
 ghost use mathlib.Core.Path.{_≡_};
 ghost use mathlib.Core.List.{[], _∷_};
 ghost use Prim.Native.Nat.{_+_, _≤_, _<_};
 ghost use lib.ListN.{length};
 ghost use Rattle.base_layout.specs.Layout.{recordsBound, answerSize};
 ghost use Rattle.base_lists.specs.Seq.{put};
+ghost use Rattle.table_record.specs.Record.{roleOf};
 ghost use Rattle.step_shown.specs.Kinds.{byIndication};
 ghost use Rattle.step_shown.specs.Shows.{shownOf};
 ghost use Rattle.step_shown.specs.Words.{shownWords};
-ghost use Rattle.c_answers.specs.Answers.{toldTid, toldFired, recordWords, answerWords, turnWords, moreWords, toldAfter};
+ghost use Rattle.c_answers.specs.Answers.{toldTid, toldFired, recordWords, answerWords, turnWords, roleCost, noCost, changeCost, costWords, moreWords, toldAfter};
 use codec_items::Unknown;
 use row_columns::Indication;
 use row_turns::Turn;
+use step_commit::Change;
 use step_plan::Call;
 use step_plan::Holder;
 use step_plan::Told;
 use step_shown::Context;
+use table_record::Record;
+use table_record::Role;
+
+// What an answer tells of an initiator's record: the octets that it has sent, and whether its transaction ended.
+pub struct Cost {
+    pub sent: u32,
+    pub ended: bool,
+}
 
 // Nothing is no indication, all else is one.
 fn shown_count(i: Indication) -> u64
@@ -103,14 +113,64 @@ fn store_answer(
     base_lists::store_words(answer, 28, &record);
 }
 
-// Words 32 to 39 of an accepted call, in which the first unknown item of its PDU is told; gives the call's result on.
+// A responder's record tells nothing.
+fn role_cost(role: Role, sent: u32, ended: bool) -> Cost
+    ensures { λ v. ⌜ v ≡ roleCost role sent ended ⌝ }
+{
+    match role {
+        Role::Initiator => Cost {
+            sent: sent,
+            ended: ended,
+        },
+        Role::Responder => no_cost(),
+    }
+}
+
+fn record_cost(r: Record, ended: bool) -> Cost
+    ensures { λ v. ⌜ v ≡ roleCost (roleOf (r .state)) (r .sent) ended ⌝ }
+{
+    let state = r.state;
+    role_cost(table_record::role_of(state), r.sent, ended)
+}
+
+// A call that concerns no initiator's record.
+pub fn no_cost() -> Cost
+    ensures { λ v. ⌜ v ≡ noCost ⌝ }
+{
+    Cost {
+        sent: 0,
+        ended: false,
+    }
+}
+
+// What a change of a record tells; `was` is the record before it.
+pub fn change_cost(change: Change, was: Record) -> Cost
+    ensures { λ v. ⌜ v ≡ changeCost change was ⌝ }
+{
+    match change {
+        Change::Nothing => no_cost(),
+        Change::Put(r) => record_cost(r, false),
+        Change::Clear => record_cost(was, true),
+    }
+}
+
+// Words 32 and 33.
+pub fn report(answer: &mut [u64], cost: Cost)
+    requires { ⌜ 34 ≤ length (now answer) ⌝ }
+    ensures { λ _. ⌜ now (answer .exit) ≡ put (now (answer .entry)) 32 (costWords cost) ⌝ }
+{
+    let words = [cost.sent as u64, base_lists::bit(cost.ended) as u64];
+    base_lists::store_words(answer, 32, &words);
+}
+
+// Words 34 to 39 of an accepted call, in which the first unknown item of its PDU is told; gives the call's result on.
 pub fn tell(answer: &mut [u64], result: u64, item: Unknown) -> u64
     requires { ⌜ answerSize ≤ length (now answer) ⌝ }
     ensures { λ r. ⌜ (r ≡ result) × (now (answer .exit) ≡ toldAfter result (now (answer .entry)) (moreWords item)) ⌝ }
 {
     if result == 0 {
-        let more = [0, 0, item.identity as u64, item.place as u64, 0, 0, 0, 0];
-        base_lists::store_words(answer, 32, &more);
+        let more = [item.identity as u64, item.place as u64, 0, 0, 0, 0];
+        base_lists::store_words(answer, 34, &more);
     }
     result
 }

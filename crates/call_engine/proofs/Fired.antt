@@ -14,8 +14,8 @@ use Rattle.table_well_formed.specs.WellFormed.{WellFormed}
 use Rattle.step_plan.specs.Steps.{idleStep}
 use Rattle.step_plan.specs.declared.Call.{Call}
 use Rattle.step_plan.specs.declared.Plan.the-variants as Plan
-use Rattle.step_outcome.specs.Carry.{Lent, Ready, carriedOut}
-use Rattle.c_answers.specs.Handed.{Called, handed}
+use Rattle.step_outcome.specs.Carry.{Lent, Ready}
+use Rattle.c_answers.specs.Handed.{Called, handedBy}
 use Rattle.step_carrying.specs.Coming.{comingStep, InRange}
 use Rattle.step_carrying.specs.declared.Coming.{Coming}
 use Rattle.law_places.proofs.Whole.{Whole, due-whole}
@@ -58,5 +58,5 @@ module _ (l : Lent) (place time : ℕ) (coming : Coming) (g : Given) (c : Call) 
   pub ranged : recordAt (l .table) place .tid ≤ tidBound → place < recordsBound → time ≤ timeBound → InRange (l .table) coming g
   ranged tid small bound = rw (ce, ge) (in-range (l .table) place time tid small bound)
 
-  pub so : (d : Called) (words : List ℕ) → d ≡ handed (carriedOut l (comingStep (l .table) coming g c)) words → d ≡ handed (carriedOut l (firedStep (l .table) place time)) words
+  pub so : (d : Called) (words : List ℕ) → d ≡ handedBy l (Plan.Go (comingStep (l .table) coming g c)) words → d ≡ handedBy l (Plan.Go (firedStep (l .table) place time)) words
   so d words k = k ∙ rw is refl

@@ -1,12 +1,13 @@
 -- An accepted primitive, as the code carries it out. Assumes nothing.
-use Prim.Native.Nat.{ℕ, _≤_}
+use Prim.Native.Nat.{ℕ}
 use mathlib.Core.Path.{_≡_}
 use mathlib.Core.List.{List}
 use lib.ListN.{length}
 use Rattle.row_turns.specs.declared.Given.{Given}
 use Rattle.step_plan.specs.declared.Call.{Call}
-use Rattle.step_outcome.specs.Carry.{Lent, Ready, carriedOut, outcome}
-use Rattle.c_answers.specs.Handed.{Called, handed}
+use Rattle.step_plan.specs.declared.Plan.the-variants.{Go}
+use Rattle.step_outcome.specs.Carry.{Lent, Ready}
+use Rattle.c_answers.specs.Handed.{Called, handedBy}
 use Rattle.step_carrying.specs.Coming.{comingStep, InRange}
 use Rattle.step_carrying.specs.declared.Coming.{Coming}
 use Rattle.call_refusal.specs.declared.Placed.the-variants as Placed
@@ -30,5 +31,5 @@ module _ (l : Lent) (p : Primitive) (place : ℕ) (e : Placed.At place ≡ primi
     pub ranged : InRange (l .table) coming g
     ranged = rw (ce, ge) (in-range (l .table) place p placing)
 
-    pub so : (d : Called) (words : List ℕ) → d ≡ handed (carriedOut l (comingStep (l .table) coming g c)) words → d ≡ handed (outcome l (primitivePlan (l .table) (length (l .store)) (length (l .output)) p)) words
+    pub so : (d : Called) (words : List ℕ) → d ≡ handedBy l (Go (comingStep (l .table) coming g c)) words → d ≡ handedBy l (primitivePlan (l .table) (length (l .store)) (length (l .output)) p) words
     so = gone-coming l (primitivePlan (l .table) (length (l .store)) (length (l .output)) p) (primitiveStep (l .table) place p) (plan-goes (l .table) (length (l .store)) (length (l .output)) p place e) coming g c is

@@ -5,12 +5,13 @@ ghost use Prim.Native.Nat.{_+_, _*_, _≤_, _<_};
 ghost use lib.ListN.{length};
 ghost use Rattle.base_layout.specs.Layout.{headerSize, recordSize, timeBound, tidBound, recordsBound};
 ghost use Rattle.table_layout.specs.Table.{recordAt};
-ghost use Rattle.step_outcome.specs.Carry.{Ready, lent, carriedOut, outcome};
-ghost use Rattle.c_answers.specs.Handed.{called, handed};
+ghost use Rattle.step_plan.specs.declared.Plan.the-variants.{Go};
+ghost use Rattle.step_outcome.specs.Carry.{Ready, lent};
+ghost use Rattle.c_answers.specs.Handed.{called, handedBy};
 ghost use Rattle.call_primitive.specs.Primitives.{primitivePlan};
 ghost use Rattle.call_timer.specs.Timers.{firedStep};
-ghost use Rattle.call_plans.specs.Calls.{Call, promised};
-ghost use Rattle.call_engine.specs.Calls.{PlanReady};
+ghost use Rattle.call_plans.specs.Calls.{Call};
+ghost use Rattle.call_engine.specs.Calls.{gives, PlanReady};
 use call_primitive::Primitive;
 use call_receive::Arrives;
 use call_refusal::Judged;
@@ -31,8 +32,8 @@ pub fn request(
     user_ack: bool,
     user: &[u8],
 ) -> u64
-    requires { ⌜ 32 ≤ length (now answer) ⌝ }
-    ensures { λ r. ⌜ called r (now (table .exit)) (now (store .exit)) (now (output .exit)) (now (answer .exit)) ≡ handed (promised (Call.Request time peer class «user_ack») (lent (now (table .entry)) (now (store .entry)) (now (output .entry)) (now (user .entry)) [])) (now (answer .entry)) ⌝ }
+    requires { ⌜ 34 ≤ length (now answer) ⌝ }
+    ensures { λ r. ⌜ called r (now (table .exit)) (now (store .exit)) (now (output .exit)) (now (answer .exit)) ≡ gives (Call.Request time peer class «user_ack») (lent (now (table .entry)) (now (store .entry)) (now (output .entry)) (now (user .entry)) []) (now (answer .entry)) ⌝ }
 {
     let none = [0u8; 1];
     let q = Request {
@@ -64,8 +65,8 @@ fn primitive(
     p: Primitive,
 ) -> u64
     requires { ⌜ PlanReady (lent (now table) (now store) (now output) (now given) (now exit)) (primitivePlan (now table) (length (now store)) (length (now output)) p) ⌝ }
-    requires { ⌜ 32 ≤ length (now answer) ⌝ }
-    ensures { λ r. ⌜ called r (now (table .exit)) (now (store .exit)) (now (output .exit)) (now (answer .exit)) ≡ handed (outcome (lent (now (table .entry)) (now (store .entry)) (now (output .entry)) (now (given .entry)) (now (exit .entry))) (primitivePlan (now (table .entry)) (length (now (store .entry))) (length (now (output .entry))) p)) (now (answer .entry)) ⌝ }
+    requires { ⌜ 34 ≤ length (now answer) ⌝ }
+    ensures { λ r. ⌜ called r (now (table .exit)) (now (store .exit)) (now (output .exit)) (now (answer .exit)) ≡ handedBy (lent (now (table .entry)) (now (store .entry)) (now (output .entry)) (now (given .entry)) (now (exit .entry))) (primitivePlan (now (table .entry)) (length (now (store .entry))) (length (now (output .entry))) p) (now (answer .entry)) ⌝ }
 {
     match call_primitive::primitive_place(table, store.len(), output.len(), p) {
         Placed::Refuse(r) => base_numbers::number(r),
@@ -90,8 +91,8 @@ pub fn answer(
     tid: u64,
     exit: &[u8],
 ) -> u64
-    requires { ⌜ 32 ≤ length (now answer) ⌝ }
-    ensures { λ r. ⌜ called r (now (table .exit)) (now (store .exit)) (now (output .exit)) (now (answer .exit)) ≡ handed (promised (Call.Answer time role peer tid) (lent (now (table .entry)) (now (store .entry)) (now (output .entry)) [] (now (exit .entry)))) (now (answer .entry)) ⌝ }
+    requires { ⌜ 34 ≤ length (now answer) ⌝ }
+    ensures { λ r. ⌜ called r (now (table .exit)) (now (store .exit)) (now (output .exit)) (now (answer .exit)) ≡ gives (Call.Answer time role peer tid) (lent (now (table .entry)) (now (store .entry)) (now (output .entry)) [] (now (exit .entry))) (now (answer .entry)) ⌝ }
 {
     let none = [0u8; 1];
     let p = Primitive {
@@ -119,8 +120,8 @@ pub fn result(
     tid: u64,
     user: &[u8],
 ) -> u64
-    requires { ⌜ 32 ≤ length (now answer) ⌝ }
-    ensures { λ r. ⌜ called r (now (table .exit)) (now (store .exit)) (now (output .exit)) (now (answer .exit)) ≡ handed (promised (Call.Result time role peer tid) (lent (now (table .entry)) (now (store .entry)) (now (output .entry)) (now (user .entry)) [])) (now (answer .entry)) ⌝ }
+    requires { ⌜ 34 ≤ length (now answer) ⌝ }
+    ensures { λ r. ⌜ called r (now (table .exit)) (now (store .exit)) (now (output .exit)) (now (answer .exit)) ≡ gives (Call.Result time role peer tid) (lent (now (table .entry)) (now (store .entry)) (now (output .entry)) (now (user .entry)) []) (now (answer .entry)) ⌝ }
 {
     let none = [0u8; 1];
     let p = Primitive {
@@ -148,8 +149,8 @@ pub fn abort(
     tid: u64,
     reason: u8,
 ) -> u64
-    requires { ⌜ 32 ≤ length (now answer) ⌝ }
-    ensures { λ r. ⌜ called r (now (table .exit)) (now (store .exit)) (now (output .exit)) (now (answer .exit)) ≡ handed (promised (Call.Abort time role peer tid reason) (lent (now (table .entry)) (now (store .entry)) (now (output .entry)) [] [])) (now (answer .entry)) ⌝ }
+    requires { ⌜ 34 ≤ length (now answer) ⌝ }
+    ensures { λ r. ⌜ called r (now (table .exit)) (now (store .exit)) (now (output .exit)) (now (answer .exit)) ≡ gives (Call.Abort time role peer tid reason) (lent (now (table .entry)) (now (store .entry)) (now (output .entry)) [] []) (now (answer .entry)) ⌝ }
 {
     let none = [0u8; 1];
     let p = Primitive {
@@ -176,8 +177,8 @@ pub fn receive(
     peer: u64,
     octets: &[u8],
 ) -> u64
-    requires { ⌜ 32 ≤ length (now answer) ⌝ }
-    ensures { λ r. ⌜ called r (now (table .exit)) (now (store .exit)) (now (output .exit)) (now (answer .exit)) ≡ handed (promised (Call.Receive time peer) (lent (now (table .entry)) (now (store .entry)) (now (output .entry)) (now (octets .entry)) [])) (now (answer .entry)) ⌝ }
+    requires { ⌜ 34 ≤ length (now answer) ⌝ }
+    ensures { λ r. ⌜ called r (now (table .exit)) (now (store .exit)) (now (output .exit)) (now (answer .exit)) ≡ gives (Call.Receive time peer) (lent (now (table .entry)) (now (store .entry)) (now (output .entry)) (now (octets .entry)) []) (now (answer .entry)) ⌝ }
 {
     let none = [0u8; 1];
     match call_receive::receive_refusal(
@@ -219,8 +220,8 @@ fn fire(
 ) -> u64
     requires { ⌜ Ready (lent (now table) (now store) (now output) [] []) (firedStep (now table) place time) ⌝ }
     requires { ⌜ (headerSize + place * recordSize + recordSize ≤ length (now table)) × (place < recordsBound) × (recordAt (now table) place .tid ≤ tidBound) × (time ≤ timeBound) ⌝ }
-    requires { ⌜ 32 ≤ length (now answer) ⌝ }
-    ensures { λ r. ⌜ called r (now (table .exit)) (now (store .exit)) (now (output .exit)) (now (answer .exit)) ≡ handed (carriedOut (lent (now (table .entry)) (now (store .entry)) (now (output .entry)) [] []) (firedStep (now (table .entry)) place time)) (now (answer .entry)) ⌝ }
+    requires { ⌜ 34 ≤ length (now answer) ⌝ }
+    ensures { λ r. ⌜ called r (now (table .exit)) (now (store .exit)) (now (output .exit)) (now (answer .exit)) ≡ handedBy (lent (now (table .entry)) (now (store .entry)) (now (output .entry)) [] []) (Go (firedStep (now (table .entry)) place time)) (now (answer .entry)) ⌝ }
 {
     let none = [0u8; 1];
     let coming = call_timer::fired_row(table, place);
@@ -238,8 +239,8 @@ pub fn timer(
     answer: &mut [u64],
     time: u64,
 ) -> u64
-    requires { ⌜ 32 ≤ length (now answer) ⌝ }
-    ensures { λ r. ⌜ called r (now (table .exit)) (now (store .exit)) (now (output .exit)) (now (answer .exit)) ≡ handed (promised (Call.Timer time) (lent (now (table .entry)) (now (store .entry)) (now (output .entry)) [] [])) (now (answer .entry)) ⌝ }
+    requires { ⌜ 34 ≤ length (now answer) ⌝ }
+    ensures { λ r. ⌜ called r (now (table .exit)) (now (store .exit)) (now (output .exit)) (now (answer .exit)) ≡ gives (Call.Timer time) (lent (now (table .entry)) (now (store .entry)) (now (output .entry)) [] []) (now (answer .entry)) ⌝ }
 {
     match call_refusal::entry(table, store.len(), output.len(), time) {
         Judged::Refuse(r) => base_numbers::number(r),
@@ -263,8 +264,8 @@ pub fn fire_named(
     peer: u64,
     tid: u64,
 ) -> u64
-    requires { ⌜ 32 ≤ length (now answer) ⌝ }
-    ensures { λ r. ⌜ called r (now (table .exit)) (now (store .exit)) (now (output .exit)) (now (answer .exit)) ≡ handed (promised (Call.Fire time role peer tid) (lent (now (table .entry)) (now (store .entry)) (now (output .entry)) [] [])) (now (answer .entry)) ⌝ }
+    requires { ⌜ 34 ≤ length (now answer) ⌝ }
+    ensures { λ r. ⌜ called r (now (table .exit)) (now (store .exit)) (now (output .exit)) (now (answer .exit)) ≡ gives (Call.Fire time role peer tid) (lent (now (table .entry)) (now (store .entry)) (now (output .entry)) [] []) (now (answer .entry)) ⌝ }
 {
     match call_fire::fire_place(table, store.len(), output.len(), time, role, peer, tid) {
         Placed::Refuse(r) => base_numbers::number(r),

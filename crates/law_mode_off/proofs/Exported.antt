@@ -17,13 +17,15 @@ use Rattle.table_fresh.specs.declared.Fresh.the-variants as Fresh
 use Rattle.table_well_formed.specs.WellFormed.{WellFormed}
 use Rattle.table_salvage.specs.Salvage.{tableSalvaged}
 use Rattle.law_fresh_formed.proofs.Formed.{fresh-ok}
-use Rattle.call_plans.specs.Calls.{promised}
+use Rattle.step_plan.specs.declared.Plan.{Plan}
+use Rattle.call_plans.specs.Calls.{planFor, promised}
 use Rattle.law_history.specs.Trace.{Entry, Throughout}
-use Rattle.wtp.specs.Engine.{Called, handed, told, orSmall, itemTold}
+use Rattle.wtp.specs.Engine.{Called, handed, costed, handedBy, told, orSmall, itemTold}
 use Rattle.law_exported.specs.Session.{Exported, Keeps, entryFor, historyWith, Calls, Session}
 use Rattle.law_exported.proofs.Exported.{salvage-leaves}
-use Rattle.law_mode_off.specs.BaseCalls.{baseCalledBy}
+use Rattle.law_mode_off.specs.BaseCalls.{basePromised, baseCalledBy}
 use Rattle.law_mode_off.specs.ModeOff.{ModeOff, StaysOff}
+use Rattle.law_mode_off.proofs.Calls.{mode-off-plan}
 use Rattle.law_mode_off.proofs.Carried.{mode-off-call}
 use Rattle.law_mode_off.proofs.Kept.{call-settings, call-stays-off, fresh-off}
 
@@ -36,14 +38,21 @@ fresh-refused (Fresh.Refused r) t settings first unmade = refl
 module _ (x : Exported) (k : Keeps x) where
   -- MODE OFF, to C: the number, the words of the answer, and every lent octet
   pub exported-as-before : ModeOff (x .lent .table) → x .seen ≡ baseCalledBy (x .call) (x .lent) (x .words)
-  exported-as-before m = k .keeps ∙ ap (λ (d : Done). orSmall (x .lent) (x .words) d (moreWords (itemTold (x .call) (x .lent)))) (mode-off-call (x .call) (x .lent) m)
+  unfolding handedBy promised
+  exported-as-before m =
+      k .keeps
+      ∙ ap (λ (d : Done). orSmall (x .lent) (x .words) (handed d (costed (x .lent .table) (planFor (x .call) (x .lent)) (x .words))) more) (mode-off-call (x .call) (x .lent) m)
+      ∙ ap (λ (p : Plan). orSmall (x .lent) (x .words) (handed (basePromised (x .call) (x .lent)) (costed (x .lent .table) p (x .words))) more) (mode-off-plan (x .call) (x .lent) m)
+    where
+      more : List ℕ
+      more = moreWords (itemTold (x .call) (x .lent))
 
   few : ltb (length (x .words)) answerSize ≡ true → x .seen .table ≡ x .lent .table
   unfolding orSmall
   few e = ap (λ (c : Called). c .table) (k .keeps) ∙ rw e refl
 
   enough : ltb (length (x .words)) answerSize ≡ false → x .seen .table ≡ promised (x .call) (x .lent) .table
-  unfolding orSmall handed told
+  unfolding orSmall handedBy handed told promised
   enough e = ap (λ (c : Called). c .table) (k .keeps) ∙ rw e refl
 
   -- a call of a session whose table has it off afterwards had it off before

@@ -99,7 +99,7 @@ module _ (t : List ℕ) where
         inr record {
           range = record {
             live = k .live;
-            bounds = record { tid = m .tid; rcr = m .rcr; aec = m .aec; exit = m .exit; deadline = m .deadline; message = m .message; tidnew = m .tidnew; limit = omega (arith, none-in-force i k); unknown = m .unknown; peer = m .peer };
+            bounds = record { tid = m .tid; rcr = m .rcr; aec = m .aec; exit = m .exit; deadline = m .deadline; message = m .message; tidnew = m .tidnew; limit = omega (arith, none-in-force i k); unknown = m .unknown; sent = m .sent; peer = m .peer };
           };
           flags = k .flags;
           spare = k .spare-2;
@@ -146,7 +146,7 @@ module _ (t : List ℕ) where
         let b = k .range .bounds in
         inr record {
           live = k .range .live;
-          bounds = record { tid = b .tid; rcr = b .rcr; aec = b .aec; exit = b .exit; deadline = b .deadline; message = b .message; tidnew = b .tidnew; unknown = b .unknown; peer = b .peer };
+          bounds = record { tid = b .tid; rcr = b .rcr; aec = b .aec; exit = b .exit; deadline = b .deadline; message = b .message; tidnew = b .tidnew; unknown = b .unknown; sent = b .sent; peer = b .peer };
           flags = k .flags;
           spare-1 = limit-octets t i (m .records i inside (k .range .live));
           spare-2 = k .spare;

@@ -19,7 +19,7 @@ use Rattle.table_record.specs.Record.{octetsOf}
 use Rattle.table_record.specs.declared.Record.{Record}
 use Rattle.table_layout.specs.Table.{putRecord}
 use Rattle.table_ranges.specs.Ranges.{Zeros}
-use Rattle.law_mode_off.specs.BaseFormed.{baseOctets, basePut}
+use Rattle.law_mode_off.specs.BaseFormed.{baseOctets, laterOctets, basePut}
 use Rattle.law_mode_off.proofs.Formed.{same-octet}
 
 -- two stores, one after the other
@@ -50,7 +50,7 @@ put-zeros (suc n) u p room z =
     ∙ put-zeros n u (suc p) (omega arith) (λ k h. same-octet u (suc p + k) (p + (k + 1)) (omega arith) ∙ z (k + 1) (omega arith))
 
 -- the octets of a record with no waiting limit in force
-octets-then : (r : Record) → r .limit ≡ 0 → octetsOf r ≡ baseOctets r ++ (replicate 4 0 ++ (r .unknown ∷ []))
+octets-then : (r : Record) → r .limit ≡ 0 → octetsOf r ≡ baseOctets r ++ (replicate 4 0 ++ laterOctets r)
 unfolding octetsOf baseOctets enc
 octets-then r e = rw e refl
 
@@ -66,8 +66,8 @@ module _ (t : List ℕ) (i : ℕ) (room : base i + recordSize ≤ length t) (z :
       let u : List ℕ = put t (base i) (baseOctets r) in
       let same : (k : ℕ) → k < 4 → getD u (base i + limitOffset + k) 0 ≡ 0 = λ k h. getD-after (baseOctets r) t (base i) (base i + limitOffset + k) (omega (arith, n)) ∙ z k h in
       let next : base i + limitOffset + 4 ≡ base i + unknownOffset = omega arith in
-      ap (put t (base i)) (octets-then r e) ∙ put-append (baseOctets r) (replicate 4 0 ++ (r .unknown ∷ [])) t (base i)
-      ∙ ap (λ (k : ℕ). put u (base i + k) (replicate 4 0 ++ (r .unknown ∷ []))) n
-      ∙ put-append (replicate 4 0) (r .unknown ∷ []) u (base i + limitOffset)
-      ∙ ap (λ (v : List ℕ). put v (base i + limitOffset + 4) (r .unknown ∷ [])) (put-zeros 4 u (base i + limitOffset) (rw (length-put t (base i) (baseOctets r)) (omega (arith, room))) same)
-      ∙ ap (λ (k : ℕ). put u k (r .unknown ∷ [])) next
+      ap (put t (base i)) (octets-then r e) ∙ put-append (baseOctets r) (replicate 4 0 ++ laterOctets r) t (base i)
+      ∙ ap (λ (k : ℕ). put u (base i + k) (replicate 4 0 ++ laterOctets r)) n
+      ∙ put-append (replicate 4 0) (laterOctets r) u (base i + limitOffset)
+      ∙ ap (λ (v : List ℕ). put v (base i + limitOffset + 4) (laterOctets r)) (put-zeros 4 u (base i + limitOffset) (rw (length-put t (base i) (baseOctets r)) (omega (arith, room))) same)
+      ∙ ap (λ (k : ℕ). put u k (laterOctets r)) next

@@ -2,7 +2,7 @@
 use Prim.Native.Nat.{ℕ, _+_}
 use mathlib.Core.Bool.{false}
 use mathlib.Core.List.{List}
-use Rattle.table_record.specs.Record.{classOf}
+use Rattle.table_record.specs.Record.{classOf, sentMost}
 use Rattle.table_record.specs.declared.State.{State}
 use Rattle.table_record.specs.declared.Record.{Record}
 use Rattle.table_layout.specs.Table.{settingsOf, intervalsOf, cachedOf, recordAt}
@@ -17,7 +17,7 @@ use Rattle.row_columns.specs.declared.Timer.{Timer}
 use Rattle.row_columns.specs.declared.Timer.the-variants as Timer
 use Rattle.row_columns.specs.declared.Act.{Act}
 use Rattle.row_conditions.specs.Conditions.{conditionsOf}
-use Rattle.row_turns.specs.Turns.{noTimer, newRecord, rcrAfter, aecAfter, holdOnAfter, tidokSentAfter, holdOnSentAfter, exitLenAfter, storesExit, lenAfter, unknownAfter}
+use Rattle.row_turns.specs.Turns.{noTimer, newRecord, rcrAfter, aecAfter, holdOnAfter, tidokSentAfter, holdOnSentAfter, exitLenAfter, storesExit, lenAfter, unknownAfter, costOf, sentAfter}
 use Rattle.row_turns.specs.declared.Given.{Given}
 use Rattle.row_turns.specs.declared.Turn.{Turn}
 use Rattle.law_rows_listed.specs.Document.{baseRow}
@@ -58,6 +58,7 @@ baseMoved state a r g s rows = record {
   len = lenAfter (a .cell) (r .len) (g .len);
   limit = 0;
   unknown = unknownAfter (a .item) (r .unknown) (g .unknown);
+  sent = sentAfter (r .sent + costOf (a .send) (lenAfter (a .cell) (r .len) (g .len))) (sentMost (s .«rcr_max»));
 }
 
 -- 01, "Events": the base's record after a row, free where it ends

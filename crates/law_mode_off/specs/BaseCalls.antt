@@ -36,7 +36,7 @@ use Rattle.call_timer.specs.Timers.{timerTests, firedGiven, firedCall}
 use Rattle.call_fire.specs.Fires.{asFire, fireTests}
 use Rattle.call_plans.specs.Calls.{Call, asRequest, asAnswer, asResult, asAbort, storeSize, outputSize}
 use Rattle.c_answers.specs.Answers.{moreWords}
-use Rattle.wtp.specs.Engine.{Called, orSmall, itemTold}
+use Rattle.wtp.specs.Engine.{Called, handed, costed, orSmall, itemTold}
 use Rattle.law_mode_off.specs.Base.{baseRowAt, baseLiveStep, baseOpeningStep}
 use Rattle.law_mode_off.specs.BaseFormed.{baseTableChanged}
 
@@ -120,4 +120,4 @@ basePromised c l = baseOutcome l (basePlanFor c l)
 
 -- 01, "How the answers are held": what a caller of the base's exported function sees
 abbrev pub baseCalledBy : Call → Lent → List ℕ → Called
-baseCalledBy c l words = orSmall l words (basePromised c l) (moreWords (itemTold c l))
+baseCalledBy c l words = orSmall l words (handed (basePromised c l) (costed (l .table) (basePlanFor c l) words)) (moreWords (itemTold c l))

@@ -13,7 +13,7 @@ use Rattle.table_layout.specs.Table.{count, clockOf, genTidOf, settingsOf, inte
 use Rattle.table_layout.specs.declared.Settings.{Settings}
 use Rattle.table_ranges.specs.Ranges.{UnknownOk, Zeros}
 use Rattle.table_header_ok.specs.Header.{SettingsOk, RowsOk}
-use Rattle.table_record_ok.specs.OneRecord.{Live, FreeOk, tidnewBound}
+use Rattle.table_record_ok.specs.OneRecord.{Live, FreeOk, tidnewBound, sentBound}
 use Rattle.table_names_ok.specs.Names.{Unique}
 use Rattle.table_well_formed.specs.WellFormed.{Sized}
 use Rattle.step_commit.specs.Commit.{exitStored, genTidChanged, cacheChanged}
@@ -25,7 +25,7 @@ use Rattle.step_commit.specs.declared.Changes.{Changes}
 abbrev pub baseSpare : ℕ
 baseSpare = 5
 
--- docs/TABLE.md, without L6: 4 spare octets in a record, between the length of its message and the identity of L4
+-- docs/TABLE.md, without L6: 4 spare octets in a record, between the length of its message and the identity of L4, which the octets sent of L11 follow
 abbrev pub baseRecordSpare : ℕ
 baseRecordSpare = 4
 
@@ -50,6 +50,7 @@ pub record BaseBounded (s : Settings) (r : Record) : Type 0 where
   pub message : r .len ≤ cellSize
   pub tidnew : bit (r .tidnew) ≤ tidnewBound (roleOf (r .state))
   pub unknown : UnknownOk (r .unknown)
+  pub sent : r .sent ≤ sentBound (roleOf (r .state)) (s .«rcr_max»)
   pub peer : r .peer < peers
 
 -- 01: a live record is in range, its spare bits and octets zero
@@ -79,9 +80,13 @@ baseOctets r =
     (stateNumber (r .state) ∷ r .peer ∷ [])
     ++ (enc 2 (r .tid) ++ ((r .rcr .0 ∷ r .aec .0 ∷ flagsOf r ∷ r .«exit_len» ∷ []) ++ (enc 8 (r .deadline) ++ enc 4 (r .len))))
 
--- docs/TABLE.md, without L6: the table with them, and the identity of L4, written at place i
+-- docs/TABLE.md, without L6: the identity of L4 and the octets sent of L11
+abbrev pub laterOctets : Record → List ℕ
+laterOctets r = r .unknown ∷ enc 4 (r .sent)
+
+-- docs/TABLE.md, without L6: the table with both, written at place i
 unfoldable pub basePut : List ℕ → ℕ → Record → List ℕ
-basePut t i r = put (put t (base i) (baseOctets r)) (base i + unknownOffset) (r .unknown ∷ [])
+basePut t i r = put (put t (base i) (baseOctets r)) (base i + unknownOffset) (laterOctets r)
 
 -- 01: "A freed record is zeroed": the record at a place as it was, with other fields, or freed
 unfoldable pub baseRecordChanged : List ℕ → ℕ → Change → List ℕ

@@ -123,10 +123,14 @@ module _ (l : Lent) (due : List ℕ) (time : ℕ) (w : WellFormed (l .table)) (e
       record { inside = s .inside; live = live-number (recordAt t j .state) (s .runs .live); role = sym (words .word-2); peer = sym (words .word-3); tid = sym (words .word-4) } in
       fires-it t w (asFire time (getD (dueAfter t due) 2 0) (getD (dueAfter t due) 3 0) (getD (dueAfter t due) 4 0)) j n (length (l .store)) (length (l .output)) (soonest-due t time j s some) (due-soonest t time j s some)
 
+  -- both have one plan
+  pub plan-in-two : planFor (Call.Timer time) l ≡ planFor (fireTold time (dueAfter (l .table) due)) l
+  plan-in-two = by-told (deadline-told (l .table) due w enough)
+
   -- WHERE A RECORD IS DUE THE TIMER CALL IS THE DEADLINE CALL AND THEN THE FIRING OF THE RECORD THAT IT TOLD
   pub timer-in-two : promised (Call.Timer time) l ≡ promised (fireTold time (dueAfter (l .table) due)) l
   unfolding promised
-  timer-in-two = ap (outcome l) (by-told (deadline-told (l .table) due w enough))
+  timer-in-two = ap (outcome l) plan-in-two
 
 -- where none is due
 module _ (l : Lent) (time : ℕ) (none : SomeDue (l .table) time → ⊥) where
@@ -146,15 +150,18 @@ module _ (l : Lent) (time : ℕ) (none : SomeDue (l .table) time → ⊥) where
       let is : step ≡ idleStep time = a .step-is ∙ ap (λ (f : Found). stepBy f (l .table) time) nothing-found in
       rw (e, is) (clock-same (l .table) time (omega (arith, a .enters .fitting .formed .sized .whole)) (omega (arith, a .enters .bounded)))
 
-  refuses : (role peer tid : ℕ) → (r : Refusal) × (promised (Call.Fire time role peer tid) l ≡ done (Refused r) (l .table) (l .store) (l .output))
-  unfolding promised outcome
-  refuses role peer tid = go (planFor (Call.Fire time role peer tid) l) refl
+  pub fire-refused : (role peer tid : ℕ) → (r : Refusal) × (planFor (Call.Fire time role peer tid) l ≡ Plan.Refuse r)
+  fire-refused role peer tid = go (planFor (Call.Fire time role peer tid) l) refl
     where
-      go : (plan : Plan) → planFor (Call.Fire time role peer tid) l ≡ plan → (r : Refusal) × (outcome l plan ≡ done (Refused r) (l .table) (l .store) (l .output))
-      go (Plan.Refuse r) e = (r, refl)
+      go : (plan : Plan) → planFor (Call.Fire time role peer tid) l ≡ plan → (r : Refusal) × (planFor (Call.Fire time role peer tid) l ≡ Plan.Refuse r)
+      go (Plan.Refuse r) e = (r, e)
       go (Plan.Go step) e =
           let a = fire-accepted (l .table) (length (l .store)) (length (l .output)) (asFire time role peer tid) step e in
           absurd (none (a .place, (a .live .inside, a .due)))
+
+  refuses : (role peer tid : ℕ) → (r : Refusal) × (promised (Call.Fire time role peer tid) l ≡ done (Refused r) (l .table) (l .store) (l .output))
+  unfolding promised outcome
+  refuses role peer tid = (fire-refused role peer tid .0, ap (outcome l) (fire-refused role peer tid .1))
 
   -- WHERE NONE IS DUE AN ACCEPTED TIMER CALL STORES ITS TIME, AND EVERY FIRING IS REFUSED
   pub none-due : (step : Step) → planFor (Call.Timer time) l ≡ Plan.Go step → NoneDue l time

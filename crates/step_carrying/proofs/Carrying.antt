@@ -3,22 +3,29 @@ use Prim.Native.Nat.{ℕ, _+_, _*_, _≤_, _<_}
 use native.Mathlib.Omega.{arith}
 use mathlib.Core.Path.{_≡_, refl}
 use mathlib.Core.List.{List}
+use mathlib.Core.Bool.{Bool, true, false}
 use lib.ListN.{length}
+use lib.Dec.{eqb}
 use Rattle.base_layout.specs.Layout.{headerSize, recordSize, tidBound, recordsBound}
-use Rattle.base_lists.specs.Seq.{put}
+use Rattle.base_lists.specs.Seq.{pick, put}
+use Rattle.table_record.specs.Record.{stateNumber}
 use Rattle.table_record.specs.declared.Record.{Record}
+use Rattle.table_layout.specs.Table.{recordAt}
 use Rattle.row_turns.specs.declared.Given.{Given}
 use Rattle.row_turns.specs.declared.Turn.{Turn}
+use Rattle.step_commit.specs.declared.Change.the-variants as Change
 use Rattle.step_commit.specs.declared.Changes.{Changes}
-use Rattle.step_changes.specs.Changes.{turnChanges}
+use Rattle.step_changes.specs.Changes.{changeOf, turnChanges}
 use Rattle.step_plan.specs.Steps.{stepOf}
 use Rattle.step_plan.specs.declared.Holder.{Holder}
 use Rattle.step_plan.specs.declared.Call.{Call}
 use Rattle.step_live.specs.Turning.{holderOf}
 use Rattle.step_opening.specs.Opens.{openingChanges}
-use Rattle.step_outcome.specs.Carry.{Lent, done, takenOf, carriedOut, Ready}
-use Rattle.c_answers.specs.Answers.{answerNumber, answerAfter, turnWords}
-use Rattle.c_answers.specs.Handed.{called, handed}
+use Rattle.step_plan.specs.declared.Plan.the-variants.{Go}
+use Rattle.step_outcome.specs.Carry.{Lent, done, takenOf, carriedOut, outcome, Ready}
+use Rattle.c_answers.specs.Answers.{answerNumber, answerAfter, turnWords, changeCost, costBy, costWords}
+use Rattle.c_answers.specs.declared.Cost.{Cost}
+use Rattle.c_answers.specs.Handed.{called, handed, planCost, costed, handedBy}
 use Rattle.step_carrying.specs.Coming.{placeOf, recordFor, turnFor, holderFor, changesFor, comingStep, InRange}
 use Rattle.step_carrying.specs.declared.Coming.{Coming}
 use Rattle.step_carrying.specs.declared.Coming.the-variants.{Live, Opens}
@@ -47,6 +54,20 @@ module _ (t : List ℕ) (coming : Coming) (g : Given) (range : InRange t coming 
   pub place-small : h .place < recordsBound
   place-small = rw (he, holder-place coming r) (range .place)
 
+-- an opening frees no record, so that it tells nothing of the one before
+opening-cost : (after was instead : Record) → changeCost (changeOf after Change.Nothing) was ≡ changeCost (changeOf after Change.Nothing) instead
+unfolding changeOf changeCost
+opening-cost after was instead = go (eqb (stateNumber (after .state)) 0)
+  where
+    go : (b : Bool) → changeCost (pick b Change.Nothing (Change.Put after)) was ≡ changeCost (pick b Change.Nothing (Change.Put after)) instead
+    go true = refl
+    go false = refl
+
+coming-cost : (t : List ℕ) (coming : Coming) (turn : Turn) (time : ℕ) → let changes : Changes = changesFor t coming turn (holderFor coming (recordFor t coming)) time in changeCost (changes .change) (recordFor t coming) ≡ changeCost (changes .change) (recordAt t (changes .place))
+unfolding changesFor turnChanges openingChanges holderOf
+coming-cost t (Live place row) turn time = refl
+coming-cost t (Opens opening h genTid) turn time = opening-cost (turn .after) (recordFor t (Opens opening h genTid)) (recordAt t (h .place))
+
 module _ (l : Lent) (coming : Coming) (g : Given) (c : Call)
     (r : Record) (re : r ≡ recordFor (l .table) coming)
     (turn : Turn) (te : turn ≡ turnFor (l .table) coming r g)
@@ -56,12 +77,19 @@ module _ (l : Lent) (coming : Coming) (g : Given) (c : Call)
   unfolding comingStep
   step-is = rw (ce, te, he, re) refl
 
+  -- what is told of the record that turns is what its step tells
+  cost-same : changeCost (changes .change) r ≡ costBy (l .table) (changes)
+  unfolding costBy
+  cost-same = rw (ce, he, re) (coming-cost (l .table) coming turn (g .time))
+
   pub ready-so : Ready l (comingStep (l .table) coming g c) → Ready l (stepOf turn changes h c)
   ready-so k = rw step-is k
 
-  pub given-so : (sent : ℕ) (t s o words w : List ℕ)
+  pub given-so : (sent : ℕ) (t s o words told w : List ℕ) (cost : Cost)
+      → cost ≡ changeCost (changes .change) r
+      → told ≡ put words 32 (costWords cost)
       → done (takenOf sent (stepOf turn changes h c)) t s o ≡ carriedOut l (stepOf turn changes h c)
-      → w ≡ put words 0 (turnWords sent turn h c)
-      → called 0 t s o w ≡ handed (carriedOut l (comingStep (l .table) coming g c)) words
-  unfolding handed answerNumber answerAfter turnWords stepOf
-  given-so sent t s o words w d e = rw (← step-is, ← d, e) refl
+      → w ≡ put told 0 (turnWords sent turn h c)
+      → called 0 t s o w ≡ handedBy l (Go (comingStep (l .table) coming g c)) words
+  unfolding handedBy costed planCost outcome handed answerNumber answerAfter turnWords stepOf
+  given-so sent t s o words told w cost k p d e = rw (← step-is, ← d, e, p, k, cost-same) refl

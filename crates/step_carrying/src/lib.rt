@@ -5,10 +5,11 @@ ghost use lib.ListN.{length};
 ghost use Rattle.base_layout.specs.Layout.{headerSize, recordSize, timeBound, tidBound};
 ghost use Rattle.base_lists.specs.Seq.{put};
 ghost use Rattle.table_layout.specs.Table.{putClock};
-ghost use Rattle.step_outcome.specs.Carry.{Ready, lent, carriedOut};
+ghost use Rattle.step_plan.specs.declared.Plan.the-variants.{Go};
+ghost use Rattle.step_outcome.specs.Carry.{Ready, lent};
 ghost use Rattle.step_carrying.specs.Coming.{placeOf, recordFor, actFor, turnFor, holderFor, changesFor, comingStep, InRange};
-ghost use Rattle.c_answers.specs.Answers.{idleWords};
-ghost use Rattle.c_answers.specs.Handed.{called, handed};
+ghost use Rattle.c_answers.specs.Answers.{idleWords, noCost, costWords};
+ghost use Rattle.c_answers.specs.Handed.{called, handedBy};
 use row_columns::Act;
 use row_events::Opening;
 use row_events::Row;
@@ -101,13 +102,16 @@ pub fn carry(
 ) -> u64
     requires { ⌜ Ready (lent (now table) (now store) (now out) (now given) (now exit)) (comingStep (now table) coming g c) ⌝ }
     requires { ⌜ InRange (now table) coming g ⌝ }
-    requires { ⌜ 32 ≤ length (now answer) ⌝ }
-    ensures { λ r. ⌜ called r (now (table .exit)) (now (store .exit)) (now (out .exit)) (now (answer .exit)) ≡ handed (carriedOut (lent (now (table .entry)) (now (store .entry)) (now (out .entry)) (now (given .entry)) (now (exit .entry))) (comingStep (now (table .entry)) coming g c)) (now (answer .entry)) ⌝ }
+    requires { ⌜ 34 ≤ length (now answer) ⌝ }
+    ensures { λ r. ⌜ called r (now (table .exit)) (now (store .exit)) (now (out .exit)) (now (answer .exit)) ≡ handedBy (lent (now (table .entry)) (now (store .entry)) (now (out .entry)) (now (given .entry)) (now (exit .entry))) (Go (comingStep (now (table .entry)) coming g c)) (now (answer .entry)) ⌝ }
 {
     let r = record_for(table, coming);
     let turn = turn_for(table, coming, r, g);
     let h = holder_for(coming, r);
     let changes = changes_for(table, coming, turn, h, g.time);
+    let change = changes.change;
+    let cost = c_answers::change_cost(change, r);
+    c_answers::report(&mut *answer, cost);
     let sent = step_outcome::carry_out(table, store, out, given, exit, turn, changes, h, c);
     c_answers::give(answer, sent, turn, h, c);
     0
@@ -115,11 +119,12 @@ pub fn carry(
 
 // A call that only stores its time, and tells and shows nothing.
 pub fn idle(table: &mut [u8], answer: &mut [u64], time: u64) -> u64
-    requires { ⌜ (headerSize ≤ length (now table)) × (32 ≤ length (now answer)) ⌝ }
-    ensures { λ r. ⌜ (r ≡ 0) × (now (table .exit) ≡ putClock (now (table .entry)) time) × (now (answer .exit) ≡ put (now (answer .entry)) 0 idleWords) ⌝ }
+    requires { ⌜ (headerSize ≤ length (now table)) × (34 ≤ length (now answer)) ⌝ }
+    ensures { λ r. ⌜ (r ≡ 0) × (now (table .exit) ≡ putClock (now (table .entry)) time) × (now (answer .exit) ≡ put (put (now (answer .entry)) 32 (costWords noCost)) 0 idleWords) ⌝ }
 {
     let words = [0u64; 32];
     table_layout::put_clock(table, time);
+    c_answers::report(&mut *answer, c_answers::no_cost());
     base_lists::store_words(answer, 0, &words);
     0
 }

@@ -1,4 +1,4 @@
--- `c_answers::tell` meets its contract: words 32 to 39, where the call was accepted. Assumes nothing.
+-- `c_answers::tell` meets its contract: words 34 to 39, where the call was accepted. Assumes nothing.
 use mathlib.Core.Path.{refl}
 use borrow.Author.Tests.{eq-eqb, ne-eqb}
 use Rattle.c_answers.specs.Answers.{moreWords, toldAfter}

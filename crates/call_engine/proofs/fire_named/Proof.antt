@@ -3,7 +3,6 @@ use mathlib.Core.List.{[]}
 use mathlib.Core.Path.{sym, _∙_}
 use denote.Ref.{now}
 use Rattle.step_outcome.specs.Carry.{lent}
-use Rattle.call_plans.specs.Calls.{promised}
 use Rattle.call_engine.proofs.Carrying.{refused-so}
 use Rattle.call_engine.proofs.NamedFiring.{known, ready, so, refuses}
 use borrow.Author.Needs.{needs}
@@ -17,7 +16,6 @@ fire-requires c κs =
     (ready (now (c .before .before .before .before .before .before .before .before .before .before .before .before .before .args .table)) (now (c .before .before .before .before .before .before .before .before .before .before .before .before .before .args .store)) (now (c .before .before .before .before .before .before .before .before .before .before .before .before .before .args .output)) (c .before .before .before .before .before .before .before .before .before .before .before .before .before .args .time) (c .before .before .before .before .before .before .before .before .before .before .before .before .before .args .role) (c .before .before .before .before .before .before .before .before .before .before .before .before .before .args .peer) (c .before .before .before .before .before .before .before .before .before .before .before .before .before .args .tid) _ e, ((k .0 .there, k .0 .small, k .0 .tid, k .1), c .before .before .before .before .before .before .before .before .before .before .before .before .before .pre))
 
 pub fire-named-spec : {M : Type 1} → statement M
-unfolding promised
 fire-named-spec =
     tie.close (tie.spec
     (λ c κs. search needs) (λ c. search needs) (λ c κs. search needs) (λ c. search needs) fire-requires (λ c. search needs)

@@ -4,7 +4,7 @@ use mathlib.Core.Path.{refl, sym, _∙_}
 use lib.ListN.{length}
 use denote.Ref.{now}
 use Rattle.step_outcome.specs.Carry.{lent}
-use Rattle.call_plans.specs.Calls.{Call, asRequest, promised}
+use Rattle.call_plans.specs.Calls.{Call, asRequest}
 use Rattle.call_request.proofs.Staged.{plan-refuses}
 use Rattle.law_plans_sound.proofs.CallSound.{call-sound}
 use Rattle.call_engine.proofs.Carrying.{refused-so, sound-ready}
@@ -14,7 +14,6 @@ use Rattle.call_engine.proofs.request.Statement.{statement}
 use Rattle.call_engine.proofs.request.Tie as tie
 
 pub request-spec : {M : Type 1} → statement M
-unfolding promised
 request-spec =
     tie.close (tie.spec
     (λ c κs. search needs) (λ c. search needs) (λ c κs. search needs) (λ c. search needs)

@@ -4,7 +4,7 @@ use mathlib.Core.Path.{refl, sym, _∙_}
 use lib.ListN.{length}
 use denote.Ref.{now}
 use Rattle.step_outcome.specs.Carry.{lent}
-use Rattle.call_plans.specs.Calls.{Call, promised}
+use Rattle.call_plans.specs.Calls.{Call}
 use Rattle.call_request.proofs.Passed.{has-header, has-records}
 use Rattle.law_plans_sound.proofs.CallSound.{call-sound}
 use Rattle.call_engine.proofs.Carrying.{goes-ready, refused-so, gone-so, sound-ready}
@@ -20,7 +20,6 @@ fire-requires c κs =
     (goes-ready (lent (now (c .before .before .before .before .before .before .before .before .before .before .before .before .before .before .before .before .before .before .args .table)) (now (c .before .before .before .before .before .before .before .before .before .before .before .before .before .before .before .before .before .before .args .store)) (now (c .before .before .before .before .before .before .before .before .before .before .before .before .before .before .before .before .before .before .args .output)) [] []) _ _ (fires (now (c .before .before .before .before .before .before .before .before .before .before .before .before .before .before .before .before .before .before .args .table)) (length (now (c .before .before .before .before .before .before .before .before .before .before .before .before .before .before .before .before .before .before .args .store))) (length (now (c .before .before .before .before .before .before .before .before .before .before .before .before .before .before .before .before .before .before .args .output))) (c .before .before .before .before .before .before .before .before .before .before .before .before .before .before .before .before .before .before .args .time) _ (c .before .before .before .before .before .before .before .before .before .before .before .before .entry .ensures) (c .before .before .before .before .before .before .before .before .before .before .enum-told .given .1) _ _ (c .before .before .before .before .before .before .before .before .records .ensures) (c .before .before .before .before .before .before .before .due .ensures) _ (c .before .before .before .before .before .place .given .1)) (sound-ready _ _ (call-sound (Call.Timer (c .before .before .before .before .before .before .before .before .before .before .before .before .before .before .before .before .before .before .args .time)) (lent (now (c .before .before .before .before .before .before .before .before .before .before .before .before .before .before .before .before .before .before .args .table)) (now (c .before .before .before .before .before .before .before .before .before .before .before .before .before .before .before .before .before .before .args .store)) (now (c .before .before .before .before .before .before .before .before .before .before .before .before .before .before .before .before .before .before .args .output)) [] []) (refl, refl))), ((w .there, w .small, w .tid, enters (now (c .before .before .before .before .before .before .before .before .before .before .before .before .before .before .before .before .before .before .args .table)) (length (now (c .before .before .before .before .before .before .before .before .before .before .before .before .before .before .before .before .before .before .args .store))) (length (now (c .before .before .before .before .before .before .before .before .before .before .before .before .before .before .before .before .before .before .args .output))) (c .before .before .before .before .before .before .before .before .before .before .before .before .before .before .before .before .before .before .args .time) _ (c .before .before .before .before .before .before .before .before .before .before .before .before .entry .ensures) (c .before .before .before .before .before .before .before .before .before .before .enum-told .given .1) .bounded), c .before .before .before .before .before .before .before .before .before .before .before .before .before .before .before .before .before .before .pre))
 
 pub timer-spec : {M : Type 1} → statement M
-unfolding promised
 timer-spec =
     tie.close (tie.spec
     (λ c κs. search needs) (λ c. search needs) (λ c κs. search needs) (λ c. search needs)
