@@ -4,3 +4,4 @@ pub mod Exported
 pub mod DataSaid
 pub mod InTwo
 pub mod Waiting
+pub mod Cost

@@ -1,3 +1,4 @@
 pub mod Session
 pub mod InTwo
 pub mod Waiting
+pub mod Cost

@@ -47,12 +47,12 @@ none-aborted RResultRespWait rcr holdOn = refl
 none-aborted RWaitTimeout rcr holdOn = refl
 
 -- a freed record isn't live
-freed-is-dead : (r : Record) → r ≡ newRecord 0 0 false false → Live r → ⊥
+pub freed-is-dead : (r : Record) → r ≡ newRecord 0 0 false false → Live r → ⊥
 unfolding newRecord
 freed-is-dead r e live = not-free (r .state) live (ap (λ (x : Record). x .state) e)
 
 -- a record whose turn leaves it live keeps its name
-name-kept : (r then : Record) → FreedOrSame r then → Live then → nameOf then ≡ nameOf r
+pub name-kept : (r then : Record) → FreedOrSame r then → Live then → nameOf then ≡ nameOf r
 name-kept r then (inl e) live = absurd (freed-is-dead then e live)
 name-kept r then (inr s) live = λ i. record { role = s .role i; peer = s .peer i; tid = s .tid i }
 

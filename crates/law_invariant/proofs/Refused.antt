@@ -1,9 +1,10 @@
 -- A refused call is quiet: it counts nothing, opens nothing and changes no record. Assumes nothing.
 use Prim.Native.Nat.{ℕ, _%_}
-use mathlib.Core.Path.{_≡_, refl, ap, _∙_}
+use mathlib.Core.Path.{_≡_, refl, sym, ap, _∙_}
 use mathlib.Core.Bool.{Bool, true, false}
 use mathlib.Core.List.{[]}
 use Rattle.base_lists.specs.Seq.{pick}
+use Rattle.base_lists.proofs.StoresAndParts.{true-false}
 use Rattle.base_numbers.specs.declared.Refusal.{Refusal}
 use Rattle.table_record.specs.declared.Role.{Role}
 use Rattle.table_record.specs.declared.Role.the-variants.{Initiator, Responder}
@@ -14,9 +15,11 @@ use Rattle.step_plan.specs.declared.Told.the-variants as Told
 use Rattle.step_plan.specs.declared.Plan.the-variants.{Refuse}
 use Rattle.step_outcome.specs.Carry.{Done, done, outcome}
 use Rattle.step_outcome.specs.declared.Answer.the-variants.{Refused}
+use Rattle.c_answers.specs.Handed.{planCost}
 use Rattle.call_plans.specs.Calls.{Call, planFor, promised, isRequest}
 use Rattle.law_history.specs.Trace.{Entry, Promise}
 use Rattle.law_history.specs.Tally.{Name, isNamed, ofType, senderRole, ofSent, peerOf, adds, lives, acceptsBy, opensFor, opens}
+use Rattle.law_history.specs.Cost.{lengthFor, charged, costTold}
 use Rattle.law_history.specs.Moves.{Quiet}
 
 -- no octets are no PDU
@@ -31,6 +34,14 @@ none-sent n peer = go (isNamed n (senderRole []) peer (tidOf [] % 32768))
   where
     go : (b : Bool) → pick b (ofType (n .role) 0 0) none ≡ none
     go true = type-none (n .role)
+    go false = refl
+
+none-weighs : (n : Name) (peer : ℕ) → lengthFor n peer [] ≡ 0
+unfolding lengthFor
+none-weighs n peer = go (isNamed n (senderRole []) peer (tidOf [] % 32768))
+  where
+    go : (b : Bool) → _≡_ {A = ℕ} (pick b 0 0) 0
+    go true = refl
     go false = refl
 
 -- no TID is told
@@ -54,11 +65,17 @@ module _ (e : Entry) (r : Refusal) (is : e .done ≡ done (Refused r) (e .lent .
       go true = refl
       go false = refl
 
-  quiet : Quiet e
-  unfolding opens
-  quiet = record {
-    silent = λ n. record { adds-none = nothing-added n; not-opened = nothing-opened n (n .role) };
+  nothing-charged : (n : Name) → charged e n ≡ 0
+  unfolding charged
+  nothing-charged n = rw (is, none-weighs n (peerOf (e .call) (Refused r))) refl
+
+  quiet : planFor (e .call) (e .lent) ≡ Refuse r → Quiet e
+  unfolding opens costTold planCost
+  quiet plan = record {
+    silent = λ n. record { adds-none = nothing-added n; not-opened = nothing-opened n (n .role); uncharged = nothing-charged n };
     same = λ j. ap (λ (d : Done). recordAt (d .table) j) is;
+    unmeant = λ taken. true-false (sym (rw is at taken));
+    untold = rw plan refl;
   }
 
 -- "A refusal gives only its number and changes no lent byte"
@@ -67,4 +84,4 @@ unfolding promised outcome
 refused-is e p r q = p .keeps ∙ ap (outcome (e .lent)) q
 
 pub refused-quiet : (e : Entry) → Promise e → (r : Refusal) → planFor (e .call) (e .lent) ≡ Refuse r → Quiet e
-refused-quiet e p r q = quiet e r (refused-is e p r q)
+refused-quiet e p r q = quiet e r (refused-is e p r q) q

@@ -12,6 +12,7 @@ use Rattle.base_lists.proofs.StoresAndParts.{put-front}
 use Rattle.row_columns.specs.declared.Send.{Send}
 use Rattle.row_columns.specs.declared.Indication.{Indication}
 use Rattle.law_rows.specs.Shown.{SendProper}
+use Rattle.row_turns.specs.Turns.{costOf}
 use Rattle.row_turns.specs.declared.Turn.{Turn}
 use Rattle.step_commit.specs.declared.Changes.{Changes}
 use Rattle.step_sending.specs.Sending.{sourceOf}
@@ -19,7 +20,7 @@ use Rattle.step_sending.specs.Octets.{octetsSent}
 use Rattle.step_sending.proofs.Octets.{sent-length}
 use Rattle.step_sending.specs.declared.Sender.{Sender}
 use Rattle.step_shown.specs.Shows.{shownOf}
-use Rattle.step_plan.specs.Steps.{senderOf, contextOf, stepOf}
+use Rattle.step_plan.specs.Steps.{messageOf, senderOf, contextOf, stepOf}
 use Rattle.step_plan.specs.declared.Holder.{Holder}
 use Rattle.step_plan.specs.declared.Call.{Call as Asked}
 use Rattle.step_plan.specs.declared.Step.{Step}
@@ -31,8 +32,10 @@ use Rattle.law_counting.specs.Counting.{Counts, none, plus, ofSend, ofIndicatio
 use Rattle.call_plans.specs.Calls.{Call}
 use Rattle.law_history.specs.Trace.{Entry}
 use Rattle.law_history.specs.Tally.{Name, isNamed, ofShown, ofSent, peerOf, adds, sentOf}
-use Rattle.law_history.specs.Moves.{turnAdds}
+use Rattle.law_history.specs.Cost.{weight, lengthFor, charged}
+use Rattle.law_history.specs.Moves.{turnAdds, isPlain}
 use Rattle.law_one_turn.proofs.Sent.{sendsAs, sent-counts}
+use Rattle.law_one_turn.proofs.Weighed.{sent-weighs, own-weight}
 use Rattle.law_one_turn.proofs.Shown.{showsAs, ClassShown, shown-counts}
 use Rattle.law_one_turn.proofs.Roles.{InRole}
 
@@ -68,6 +71,11 @@ module _ (call : Call) (l : Lent) (step : Step) (f : Fits l) (ok : Sound l step)
   unfolding carriedOut
   sent-is = sent-back
 
+  -- and what they weigh
+  pub step-charges : (n : Name) → charged (entryOf call l step) n ≡ lengthFor n (peerOf call (carriedOut l step .answer)) (sentThen l step)
+  unfolding charged
+  step-charges n = ap (lengthFor n (peerOf call (carriedOut l step .answer))) sent-is
+
   -- what a step adds: its octets to the call's peer, its two indications
   pub step-adds : (n : Name) → adds (entryOf call l step) n ≡ plus (ofSent n (peerOf call (carriedOut l step .answer)) (sentThen l step)) (plus (ofShown n (step .first)) (ofShown n (step .second)))
   unfolding adds carriedOut
@@ -98,6 +106,20 @@ module _ (call : Call) (l : Lent) (turn : Turn) (changes : Changes) (h : Holder)
         ∙ (ap (λ (x : Counts). plus x (plus (ofShown n (shownOf (turn .first) (contextOf h c))) (ofShown n (shownOf (turn .second) (contextOf h c))))) sent-part
         ∙ (ap (λ (x : Counts). plus (pick own (ofSend (turn .send)) none) (plus x (ofShown n (shownOf (turn .second) (contextOf h c))))) e
         ∙ ap (λ (x : Counts). plus (pick own (ofSend (turn .send)) none) (plus first x)) k)))
+
+  -- a turn's octets weigh under its record's name alone
+  pub turn-charges : (n : Name) → charged (entryOf call l (stepOf turn changes h c)) n ≡ pick (isNamed n (h .role) (h .peer) (h .tid)) (weight (sentThen l (stepOf turn changes h c))) 0
+  unfolding sentThen octetsOut stepOf senderOf
+  turn-charges n =
+      step-charges call l (stepOf turn changes h c) f ok n
+      ∙ ap (λ (p : ℕ). lengthFor n p (sentThen l (stepOf turn changes h c))) peer
+      ∙ sent-weighs n (h .peer) (senderOf turn h c) tid _ (turn .send)
+
+  -- and weigh what it costs
+  pub turn-weighs : isPlain (turn .send) ≡ true → SendProper (turn .send) → weight (sentThen l (stepOf turn changes h c)) ≡ costOf (turn .send) (messageOf (turn .send) h c .len)
+  unfolding sentThen octetsOut tableThen storeThen stepOf senderOf FitOut
+  turn-weighs plain proper =
+      own-weight _ (turn .send) (senderOf turn h c) plain proper (sends-still l (stepOf turn changes h c) _ _ (senderOf turn h c) refl refl refl (ok .ready))
 
   module _ (role : InRole (h .role) turn) (n : Name) where
     shown-part : (i : Indication) → ClassShown (h .class) i → showsAs (h .role) i ≡ true → ofShown n (shownOf i (contextOf h c)) ≡ pick (isNamed n (h .role) (h .peer) (h .tid)) (ofIndication i) none

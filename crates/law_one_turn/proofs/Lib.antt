@@ -1,5 +1,6 @@
 pub mod Names
 pub mod Sent
+pub mod Weighed
 pub mod Shown
 pub mod Roles
 pub mod Counted

@@ -9,6 +9,7 @@ use borrow.Author.Tests.{ne-eqb}
 use Rattle.base_layout.specs.Layout.{tidBound}
 use Rattle.base_lists.specs.Seq.{pick}
 use Rattle.table_record.specs.Record.{stateNumber}
+use Rattle.table_record.specs.declared.Role.the-variants.{Initiator}
 use Rattle.table_record.specs.declared.State.the-variants.{Free}
 use Rattle.table_layout.specs.Table.{count, settingsOf, intervalsOf, recordAt}
 use Rattle.table_record_ok.specs.OneRecord.{Live}
@@ -18,30 +19,34 @@ use Rattle.row_events.specs.declared.Opening.the-variants as Opening
 use Rattle.row_columns.specs.Columns.{actWith}
 use Rattle.row_columns.specs.declared.Next.the-variants.{Ends}
 use Rattle.row_entries.specs.Acts.{openingAct}
-use Rattle.row_turns.specs.Turns.{newRecord, recordAfter, turnOf, openingTurn}
+use Rattle.row_turns.specs.Turns.{newRecord, costOf, recordAfter, turnOf, openingTurn}
 use Rattle.row_turns.specs.declared.Given.{Given}
 use Rattle.row_turns.specs.declared.Turn.{Turn}
 use Rattle.step_commit.specs.declared.Change.the-variants as Change
 use Rattle.step_commit.specs.declared.GenTidChange.{GenTidChange}
 use Rattle.step_changes.specs.Changes.{changeOf}
-use Rattle.step_plan.specs.Steps.{stepOf}
+use Rattle.step_plan.specs.Steps.{messageOf, stepOf}
+use Rattle.step_plan.specs.declared.Plan.the-variants.{Go}
 use Rattle.step_plan.specs.declared.Holder.{Holder}
 use Rattle.step_plan.specs.declared.Call.{Call as Asked}
 use Rattle.step_plan.specs.declared.Step.{Step}
 use Rattle.step_opening.specs.Opens.{openingChanges, openedTurn, openingStep}
-use Rattle.step_outcome.specs.Carry.{Lent}
+use Rattle.step_outcome.specs.Carry.{Lent, sentThen}
+use Rattle.c_answers.specs.Answers.{noCost, changeCost, costBy}
+use Rattle.c_answers.specs.Handed.{planCost}
 use Rattle.law_steps_sound.specs.Sound.{Fits, GivenOk, Sound}
 use Rattle.law_plans_sound.proofs.Openings.{openedRole, OpenedAs, opened-as}
 use Rattle.law_counting.specs.Counting.{none, requested}
-use Rattle.call_plans.specs.Calls.{Call}
+use Rattle.call_plans.specs.Calls.{Call, planFor}
 use Rattle.law_history.specs.Trace.{Entry}
 use Rattle.law_history.specs.Tally.{Name, isNamed, lives, acceptsBy, toldOf, peerOf, adds, opens}
-use Rattle.law_history.specs.Moves.{nameOf, turnAdds, before, after, SameRecords, Silent, Opened, Once}
+use Rattle.law_history.specs.Cost.{weight, charged, classAsked, costTold, Meant}
+use Rattle.law_history.specs.Moves.{nameOf, turnAdds, before, after, SameRecords, Silent, isPlain, Asks, Opened, Once}
 use Rattle.law_plans_sound.proofs.Receives.{not-free}
 use Rattle.law_one_turn.proofs.Names.{name, named-self, not-named, it-lives, none-lives}
 use Rattle.law_one_turn.proofs.Shown.{ClassShown}
 use Rattle.law_one_turn.proofs.Roles.{InRole, opened-in-role}
-use Rattle.law_one_turn.proofs.Counted.{entryOf, turn-adds}
+use Rattle.law_one_turn.proofs.Counted.{entryOf, turn-charges, turn-weighs, turn-adds}
 use Rattle.law_one_turn.proofs.Openings.{CalledBy, called-name, not-opened, still-lived, same-lived}
 use Rattle.law_one_turn.proofs.Left.{left-put, left-others, left-same, left-count}
 
@@ -72,6 +77,8 @@ module _ (call : Call) (l : Lent) (opening : Opening) (h : Holder) (g : Given) (
     pub second : ClassShown (h .class) (turn .second)
     pub unused : NoneOf (Called (h .role) (h .peer) (h .tid)) t (count t)
     pub others-asked : (n : Name) → (n ≡ own → ⊥) → acceptsBy call (toldOf (entry .done .answer)) n ≡ false
+    pub plan : planFor call l ≡ Go step
+    pub meant : Meant entry own
 
   module _ (k : OpensFor) where
     its-adds : (n : Name) → adds entry n ≡ pick (isNamed n (h .role) (h .peer) (h .tid)) (turnAdds turn) none
@@ -83,12 +90,25 @@ module _ (call : Call) (l : Lent) (opening : Opening) (h : Holder) (g : Given) (
     own-adds : adds entry own ≡ turnAdds turn
     own-adds = its-adds own ∙ ap (λ (x : Bool). pick x (turnAdds turn) none) (named-self (h .role) (h .peer) (h .tid))
 
+    its-charges : (n : Name) → charged entry n ≡ pick (isNamed n (h .role) (h .peer) (h .tid)) (weight (sentThen l step)) 0
+    unfolding openingStep
+    its-charges n = turn-charges call l turn _ h c (k .fits) (k .sound) (k .tid) (k .peer) n
+
+    -- its first PDU
+    pub own-weighs : isPlain (turn .send) ≡ true → charged entry own ≡ costOf (turn .send) (messageOf (turn .send) h c .len)
+    unfolding openingStep
+    own-weighs plain =
+        its-charges own
+        ∙ ap (λ (x : Bool). pick x (weight (sentThen l step)) 0) (named-self (h .role) (h .peer) (h .tid))
+        ∙ turn-weighs call l turn _ h c (k .fits) (k .sound) (k .tid) (k .peer) plain (opened-in-role t opening h g .proper)
+
     silent : (n : Name) → (n ≡ own → ⊥) → (lives (after entry) n ≡ true → lives (before entry) n ≡ true) → Silent entry n
     silent n d still =
         let b : isNamed n (h .role) (h .peer) (h .tid) ≡ false = not-named n (h .role) (h .peer) (h .tid) d in
         record {
           adds-none = its-adds n ∙ ap (λ (x : Bool). pick x (turnAdds turn) none) b;
           not-opened = not-opened entry n (k .others-asked n d) still;
+          uncharged = its-charges n ∙ ap (λ (x : Bool). pick x (weight (sentThen l step)) 0) b;
         }
 
     not-before : lives t own ≡ false
@@ -123,9 +143,15 @@ module _ (call : Call) (l : Lent) (opening : Opening) (h : Holder) (g : Given) (
       lives-then inside =
           it-lives (after entry) own (record { at = h .place; inside = rw (left-count call l step (k .fits) (k .sound)) inside; called = rw is-put called-own })
 
-      pub opened : GivenOk g → h .place < count t → recordAt t (h .place) .state ≡ Free → opens entry own ≡ true → Opened entry
+      tells : costTold entry ≡ changeCost (Change.Put (turn .after)) (recordAt t (h .place))
+      unfolding costTold planCost costBy openingStep stepOf openingChanges changeOf
+      tells =
+          let e : eqb (stateNumber (turn .after .state)) 0 ≡ false = ne-eqb (stateNumber (turn .after .state)) 0 (λ d. absurd (omega (arith, live, d))) in
+          rw (k .plan, e) refl
+
+      pub opened : GivenOk g → h .place < count t → recordAt t (h .place) .state ≡ Free → opens entry own ≡ true → (h .role ≡ Initiator → Asks entry turn g own) → Opened entry
       unfolding openedTurn
-      opened given inside free opens-own = record {
+      opened given inside free opens-own asks = record {
         name = own;
         place = h .place;
         opening = opening;
@@ -143,6 +169,9 @@ module _ (call : Call) (l : Lent) (opening : Opening) (h : Holder) (g : Given) (
         others = λ n d. silent n d (still-lived entry n (left-count call l step (k .fits) (k .sound)) (h .place) is-rest (other-gone n d));
         put = is-put;
         rest = is-rest;
+        meant = k .meant;
+        asks = asks;
+        told = tells;
       }
 
 -- an opening that ends changes no record
@@ -160,10 +189,14 @@ module _ (call : Call) (l : Lent) (h : Holder) (g : Given) (genTid : GenTidChang
   unfolding openingAct actWith
   unchanged = left-same call l _ (k .fits) (k .sound) (ends-none (l .table) Opening.Requested0 h g genTid c refl)
 
+  tells-none : costTold (entryOf call l (openingStep (l .table) Opening.Requested0 h g genTid c)) ≡ noCost
+  unfolding costTold planCost costBy changeCost openingAct actWith
+  tells-none = rw (k .plan, ends-none (l .table) Opening.Requested0 h g genTid c refl) refl
+
   -- a request of class 0
   pub once : opens (entryOf call l (openingStep (l .table) Opening.Requested0 h g genTid c)) (name (h .role) (h .peer) (h .tid)) ≡ true
-      → Once (entryOf call l (openingStep (l .table) Opening.Requested0 h g genTid c))
-  once opens-own =
+      → classAsked call ≡ 0 → Once (entryOf call l (openingStep (l .table) Opening.Requested0 h g genTid c))
+  once opens-own zero =
       let e : Entry = entryOf call l (openingStep (l .table) Opening.Requested0 h g genTid c) in
       record {
         name = name (h .role) (h .peer) (h .tid);
@@ -172,4 +205,7 @@ module _ (call : Call) (l : Lent) (h : Holder) (g : Given) (genTid : GenTidChang
         own = own-adds call l Opening.Requested0 h g genTid c k ∙ one-invoke;
         others = λ n d. silent call l Opening.Requested0 h g genTid c k n d (same-lived e n (left-count call l _ (k .fits) (k .sound)) unchanged);
         same = unchanged;
+        meant = k .meant;
+        class-0 = zero;
+        untold = tells-none;
       }

@@ -68,16 +68,16 @@ own-role n role peer tid type first = go (n .role) role
     go Responder Responder = refl
 
 -- a TID's top bit and its low 15 bits
-sender-role : (role : Role) (tid : ℕ) → tid ≤ tidBound → pick (ltb (sendTid role tid) 32768) Initiator Responder ≡ role
+pub sender-role : (role : Role) (tid : ℕ) → tid ≤ tidBound → pick (ltb (sendTid role tid) 32768) Initiator Responder ≡ role
 sender-role Initiator tid h = rw (lt-ltb tid 32768 (omega arith)) refl
 sender-role Responder tid h = rw (le-ltb (tid + 32768) 32768 (omega arith)) refl
 
-low-bits : (role : Role) (tid : ℕ) → tid ≤ tidBound → sendTid role tid % 32768 ≡ tid
+pub low-bits : (role : Role) (tid : ℕ) → tid ≤ tidBound → sendTid role tid % 32768 ≡ tid
 low-bits Initiator tid h = omega arith
 low-bits Responder tid h = omega arith
 
 module _ (n : Name) (peer : ℕ) (by : Sender) (h : by .tid ≤ tidBound) where
-  tid-read : (first : ℕ) (rest : List ℕ) → tidOf (withTid by first rest) ≡ sendTid (by .role) (by .tid)
+  pub tid-read : (first : ℕ) (rest : List ℕ) → tidOf (withTid by first rest) ≡ sendTid (by .role) (by .tid)
   unfolding tidOf
   tid-read first rest =
       let whole : Sending.tidOf by ≡ sendTid (by .role) (by .tid) = tid-whole by (omega arith) in

@@ -1,0 +1,7 @@
+pub mod Rows
+pub mod Sums
+pub mod Living
+pub mod Kept
+pub mod Told
+pub mod Through
+pub mod Attained

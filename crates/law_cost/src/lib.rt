@@ -1,0 +1,1 @@
+// The laws of what a request costs: no code.
