@@ -85,6 +85,8 @@ enum {
     WTP_FIRED_ROLE = 28, /* wtp_timer, wtp_fire: the record that was fired, and so where the PDU goes */
     WTP_FIRED_PEER,
     WTP_FIRED_TID,
+    WTP_COST = 32,      /* octets of all Invokes and TIDoks by now of the initiator record of class 1 or 2 that the call opened, named, also */
+    WTP_COST_ENDED,     /* by a PDU that is ignored, or fired; and 1 where that record ended in this call. Both 0: there is no such record */
     WTP_TOLD_UNKNOWN_IDENTITY = 34, /* wtp_receive: the first item of the PDU that section 8.4 hasn't, 6 to 15, whatever the PDU did; */
     WTP_TOLD_UNKNOWN_PLACE          /* and the place of the item's first octet in the PDU. Both 0: none, or the PDU is malformed */
 };
@@ -153,6 +155,8 @@ uint64_t wtp_fresh(uint8_t *table, size_t table_len, const uint64_t *settings, s
  * the next TID, which the answer gives. Class 0 ends with it; class 1 and 2 open an initiator record, which goes on until a
  * confirmation (class 1), a result that was answered (class 2) or an abort. The first Invoke of class 1 or 2 from a fresh table,
  * and the first after the TIDs have come back to 0, carries TIDnew: the peer then forgets the TID that it has cached.
+ * Class 1 and 2 send at most (1 + RCR_MAX) times (4 + data_len) octets before the confirmation, the result or the abort, an Abort PDU
+ * aside: WTP_COST tells how many by now, in the answer of each call for the record, and after the result stays as it is.
  * 1, 2; 3: peer; 4: more than 1,024 octets of data; 5: class over 2; 6: the next TID is in use; 7: no record is free. */
 uint64_t wtp_request(uint8_t *table, size_t table_len, uint8_t *store, size_t store_len, uint8_t *out, size_t out_len,
                      uint64_t *answer, size_t answer_len, uint64_t now, uint64_t peer, uint64_t cls, uint64_t user_ack,

@@ -1,7 +1,7 @@
 #!/usr/bin/env python3
 """Writes how many damaged tables must be refused, tests/damage/expected.txt, and what salvage must make of them, tests/damage/salvaged.txt.
 
-An independent reading of document 01's "well formed" (document 02 as far as it has landed: L2, L6, L4, L12) over the layout of docs/TABLE.md; nothing
+An independent reading of document 01's "well formed" (document 02 as far as it has landed: L2, L6, L4, L11, L12) over the layout of docs/TABLE.md; nothing
 here is taken from the definitions or the code.
 usage: tests/damage.py [--check]
 """
@@ -12,7 +12,7 @@ import sys
 
 HEADER, RECORD, COUNT = 624, 176, 2
 # where the fields of docs/TABLE.md start, RCR_MAX with AEC_MAX, A with W, R with R, RCR with AEC and flags with the exit length taken together
-FIELDS = [0, 8, 10, 12, 20, 92, 96, 97, 98, 112] + [HEADER + RECORD * i + at for i in range(COUNT) for at in (0, 1, 2, 4, 6, 8, 16, 20, 24, 25, 48)] + [HEADER + RECORD * COUNT]
+FIELDS = [0, 8, 10, 12, 20, 92, 96, 97, 98, 112] + [HEADER + RECORD * i + at for i in range(COUNT) for at in (0, 1, 2, 4, 6, 8, 16, 20, 24, 25, 29, 48)] + [HEADER + RECORD * COUNT]
 
 
 def number(octets):
@@ -35,7 +35,7 @@ def record_ok(r, rcr_max, aec_max):
         return not any(r)
     return (r[0] <= 11 and number(r[2:4]) <= 32767 and r[4] <= rcr_max and r[5] <= aec_max and r[6] <= (31 if r[0] <= 4 else 15) and r[7] <= 128
             and number(r[8:16]) <= 10 ** 12 + 86400000 and number(r[16:20]) <= 1024 and number(r[20:24]) <= 86400000
-            and (r[24] == 0 or 6 <= r[24] <= 15) and not any(r[25:48]))
+            and (r[24] == 0 or 6 <= r[24] <= 15) and number(r[25:29]) <= (1028 * (rcr_max + 1) if r[0] <= 4 else 0) and not any(r[29:48]))
 
 
 def name(r):
@@ -107,11 +107,19 @@ def all_salvaged(t):
     return lines
 
 
+def put_cost(t, place, octets):
+    """What the record has cost."""
+    t[HEADER + RECORD * place + 25:HEADER + RECORD * place + 29] = octets.to_bytes(4, "little")
+
+
 def salvage_cases():
-    """Two live records; two of one name, the first with exit information; one out of range before one that is free and not zero; two of one name, the first out of range."""
+    """Two live records, and the same with a cost; two of one name, the first with exit information; one out of range before one that is free and not zero; two of one name, the first out of range."""
     t = fresh()
     t[HEADER], t[HEADER + RECORD], t[HEADER + RECORD + 1] = 2, 8, 1
     yield "an initiator and a responder", t
+    put_cost(t, 0, 5140)
+    yield "the same with the highest cost in the first record", t
+    put_cost(t, 0, 0)
     t[HEADER + RECORD], t[HEADER + RECORD + 1], t[HEADER + 7] = 3, 0, 2
     t[HEADER + 48:HEADER + 52] = bytes([170, 187, 204, 221])
     yield "two records of one name", t
@@ -133,6 +141,8 @@ table[HEADER + 20:HEADER + 24] = (86400000).to_bytes(4, "little")
 text += ["the same with a waiting limit of 1, the first record with the longest in force"] + damaged(table)
 table[HEADER + 24], table[HEADER + RECORD + 24] = 6, 15
 text += ["the same with the identity of an unknown item in both records"] + damaged(table)
+put_cost(table, 0, 5140)
+text += ["the same with the highest cost in the first record"] + damaged(table)
 salvaged_text = ["a fresh table of two records"] + all_salvaged(fresh())
 for title, damaged_table in salvage_cases():
     salvaged_text += [title] + all_salvaged(damaged_table)

@@ -1,12 +1,12 @@
-"""An engine read from document 01 ("Numbers given back", "TIDs", "Events"), from document 02 as far as it has landed (L3, L2, L6, L4, L12), from
-the C interface's words and from docs/TABLE.md, and not from the definitions: a second opinion on what each call gives. It notes in `reached`
+"""An engine read from document 01 ("Numbers given back", "TIDs", "Events"), from document 02 as far as it has landed (L3, L2, L6, L4, L11, L12),
+from the C interface's words and from docs/TABLE.md, and not from the definitions: a second opinion on what each call gives. It notes in `reached`
 each row, test and refusal that a call meets.
 """
 
 BOUND = 10 ** 12
 LONGEST = 86400000
 HEADER, RECORD, CELL = 624, 176, 1024
-LIMIT, UNKNOWN, SPARE, EXIT = 20, 24, 25, 48
+LIMIT, UNKNOWN, COST, SPARE, EXIT = 20, 24, 25, 29, 48
 WAITING_LIMIT, MODES, TIDNEW_DUE, CACHE = 92, 96, 97, 112
 INITIATOR, RESPONDER = 0, 1
 ROLES = ["initiator", "responder"]
@@ -31,13 +31,13 @@ class Record:
         self.state, self.peer, self.tid, self.rcr, self.aec = STATES[w[0]], w[1], number(w[2:4]), w[4], w[5]
         self.up, self.held, self.tidok_sent, self.hold_on_sent, self.tidnew = (w[6] >> k & 1 for k in range(5))
         self.deadline, self.length, self.exit, self.past_exit = number(w[8:16]), number(w[16:20]), bytes(w[EXIT:EXIT + w[7]]), bytes(w[EXIT:RECORD])
-        self.limit, self.unknown = number(w[LIMIT:UNKNOWN]), w[UNKNOWN]
+        self.limit, self.unknown, self.cost = number(w[LIMIT:UNKNOWN]), w[UNKNOWN], number(w[COST:SPARE])
 
     def octets(self):
         marks = self.up + 2 * self.held + 4 * self.tidok_sent + 8 * self.hold_on_sent + 16 * self.tidnew
         w = bytes([STATES.index(self.state), self.peer]) + self.tid.to_bytes(2, "little") + bytes([self.rcr, self.aec, marks, len(self.exit)])
         w += self.deadline.to_bytes(8, "little") + self.length.to_bytes(4, "little") + self.limit.to_bytes(4, "little")
-        w += bytes([self.unknown]) + bytes(EXIT - SPARE)
+        w += bytes([self.unknown]) + self.cost.to_bytes(4, "little") + bytes(EXIT - SPARE)
         return w + self.exit + self.past_exit[len(self.exit):]
 
     def live(self):
@@ -83,6 +83,11 @@ def limit_ok(modes, limit):
     return (modes, limit) == (0, 0) or modes == 1 and 1 <= limit <= LONGEST
 
 
+def cost_bound(rcr_max):
+    """02, L11: an Invoke of 4 + 1,024 octets, and RCR_MAX PDUs after it, none longer."""
+    return (1 + rcr_max) * 1028
+
+
 def is_known(identity):
     """8.4, table 25: Error, Info, Option, PSN, SDU Boundary, Frame Boundary."""
     return identity < 6
@@ -114,7 +119,7 @@ def fields_ok(w, t):
         return False
     if number(w[8:16]) > BOUND + LONGEST or number(w[16:20]) > CELL or number(w[LIMIT:UNKNOWN]) > LONGEST:
         return False
-    return True
+    return number(w[COST:SPARE]) <= (cost_bound(t[10]) if w[0] <= 4 else 0)
 
 
 def octets_of(t, place):
@@ -226,7 +231,7 @@ class Call:
     def __init__(self, end, table, time):
         self.end, self.t, self.time = end, table, time
         self.sent, self.shown, self.tid, self.fired, self.met, self.refusal, self.changed = b"", [], None, None, "", 0, []
-        self.by_name, self.unknown = False, (0, 0)
+        self.by_name, self.unknown, self.cost, self.payer = False, (0, 0), (0, 0), None
 
     def meet(self, state, event, row, condition=""):
         self.met = " {%s %s %s}" % (state, EVENT_NAME[event], row)
@@ -261,6 +266,16 @@ class Call:
         """02, L4: the record keeps the identity of the PDU's first unknown item, 0 where it has none."""
         reached.add(("identity", row, "unknown item" if p.unknown[0] else "none, and one before" if r.unknown else "none"))
         r.unknown = p.unknown[0]
+
+    def tell_cost(self, tid, octets, ended):
+        """02, L11: what the initiator's record that the call concerns has cost, or had when it ended."""
+        self.payer, self.cost = tid, (octets, ended)
+
+    def pay(self, r):
+        """02, L11: the Invoke or TIDok that was sent adds its length to what the record has cost; the sum stops at its bound."""
+        bound = cost_bound(self.t.rcr_max)
+        reached.add(("cost", "stops at the bound" if r.cost + len(self.sent) > bound else "the bound itself" if r.cost + len(self.sent) == bound else "below the bound", ""))
+        r.cost = min(r.cost + len(self.sent), bound)
 
     def provider_abort(self, r, reason):
         self.sent = pdu(0x20, r.role(), r.tid, [reason])
@@ -306,6 +321,7 @@ def i_result_wait(c, r, event, p, given):
         else:
             c.sent = pdu(0x1C + r.tidok_sent, INITIATOR, r.tid)
             r.tidok_sent = 1
+        c.pay(r)
         r.rcr += 1
         return c.start(r, interval[r.rcr])
     if event in ("Ack", "Ack RID"):
@@ -461,11 +477,14 @@ def no_row(c, r, event):
 
 
 def turn(c, r, event, p=None, given=b""):
-    """An event at a live record, and what it does with a limit in force."""
-    state, limit = r.state, r.limit
+    """An event at a live record, what it does with a limit in force, and what the record has cost, whatever the event did."""
+    state, limit, initiator, tid, cost = r.state, r.limit, r.role() == INITIATOR, r.tid, r.cost
     act(c, r, event, p, given)
     if limit and not c.refusal:
         reached.add(("limit in force", state, "freed" if not r.live() else "stays" if r.limit else "a timer again"))
+    if initiator and not c.refusal:
+        c.tell_cost(tid, r.cost if r.live() else cost, 0 if r.live() else 1)
+        reached.add(("cost told", state, event if r.live() else "ended by " + event))
 
 
 def act(c, r, event, p, given):
@@ -667,6 +686,8 @@ def request(end, time, peer, cls, up, octets):
             r = c.t.lowest_free()
             r.state, r.peer, r.tid, r.up, r.tidnew = "IResultWait%d" % cls, peer, c.tid, up, tidnew
             c.keep(r, octets)
+            c.pay(r)
+            c.tell_cost(r.tid, r.cost, 0)
             c.start(r, c.t.rows[cls - 1][0])
             c.t.tidnew_due = 0
         # 02, L2: due from the request that brings GenTID back to 0, whatever its class, and after its own Invoke

@@ -35,7 +35,8 @@ def answer_text(end, c, s=b"", name=""):
     if name in ("timer", "fire"):
         text += "; fired %s %d/%d" % (ROLES[c.fired[0]], c.fired[1], c.fired[2]) if c.fired else "; none due"
     text += "".join(shown_text(end, s, w) for w in c.shown)
-    return text + ("; unknown %d at %d" % c.unknown if c.unknown != (0, 0) else "")
+    text += "; unknown %d at %d" % c.unknown if c.unknown != (0, 0) else ""
+    return text + ("; cost %d" % c.cost[0] + ", ended" * c.cost[1] if c.cost != (0, 0) else "")
 
 
 def look_text(end):
@@ -46,7 +47,7 @@ def look_text(end):
         if r.live():
             text += "; record %d %s %d/%d RCR %d AEC %d due %d%s length %d" % (k, r.state, r.peer, r.tid, r.rcr, r.aec, r.deadline, " limit %d" % r.limit if r.limit else "", r.length)
             text += "".join(" " + mark for mark, on in (("user-ack", r.up), ("HoldOn", r.held), ("TIDok-sent", r.tidok_sent), ("hold-on-sent", r.hold_on_sent), ("TIDnew", r.tidnew)) if on)
-            text += (" unknown %d" % r.unknown if r.unknown else "") + (" exit " + text_of(r.exit) if r.exit else "")
+            text += (" unknown %d" % r.unknown if r.unknown else "") + (" exit " + text_of(r.exit) if r.exit else "") + (" cost %d" % r.cost if r.cost else "")
     return text
 
 
@@ -54,6 +55,22 @@ def look_text(end):
 
 lines, expected, titles = [], [], []
 R, G = 0, 1  # the reader's end and the gateway's
+histories = [{}, {}]  # of each end, for the TID of each request: the octets that it sent, and whether it is over
+
+
+def recount(history, c):
+    """02, L11, as the document says it: the cost told is the sum of the lengths that the request sent before its result, class 1 confirmation
+    or abort, the Abort PDU aside. A request whose record was made up has no history."""
+    if c.tid is not None:
+        history[c.tid] = (0, False)
+    if c.payer not in history:
+        return
+    octets, over = history[c.payer]
+    if not over and c.sent[:1] not in (b"\x20", b"\x21"):
+        octets += len(c.sent)
+    over = over or c.cost[1] or any(words[0] in ("result", "abort") for words in c.shown)
+    history[c.payer] = (octets, over)
+    assert c.cost[0] == octets, "the history of TID %d has %d octets and not %d" % (c.payer, octets, c.cost[0])
 
 
 def add(line, shown, has=None, meant=None):
@@ -67,6 +84,8 @@ def add(line, shown, has=None, meant=None):
 def add_call(line, end, result, has, s=b"", name=""):
     """A call. The player can't see rows, so that it prints the record that changed; `has` may name the row that was met instead."""
     n, c = result
+    if n == 0:
+        recount(histories[ends.index(end)], c)
     given = answer_text(end, c, s, name) if n == 0 else ""
     assert c is None or len(c.changed) <= 1, "%r changes more than one record" % line
     add(line, outcome(n) + (changed_text(c.changed) if c else "") + given, has, outcome(n) + (c.met if c else "") + given)
@@ -91,6 +110,7 @@ def sets(**words):
 
 def fresh(e, records=2, first=7, has=": ok"):
     ends[e].records = records
+    histories[e].clear()
     add("fresh %d %d %d" % (e, records, first), outcome(make_fresh(ends[e], first)), has)
 
 
@@ -103,17 +123,20 @@ def lends(*sizes):
 def put(e, at, value):
     was = ends[e].octets[at]
     ends[e].octets[at] = value
+    histories[e].clear()
     add("put %d %d %d" % (e, at, value), ": was %d" % was)
 
 
 def copy(e, place, to):
     """Copies the octets of one record over those of another."""
+    histories[e].clear()
     ends[e].octets[record_at(to):record_at(to + 1)] = ends[e].octets[record_at(place):record_at(place + 1)]
     add("copy %d %d %d" % (e, place, to), "")
 
 
 def fill(e, place, value):
     """Makes every octet of a record this one."""
+    histories[e].clear()
     ends[e].octets[record_at(place):record_at(place + 1)] = bytes([value]) * (record_at(1) - record_at(0))
     add("fill %d %d %d" % (e, place, value), "")
 

@@ -718,7 +718,7 @@ def waiting_limit():
     title("held on: the wait ends with an abort and no PDU; a later plain Ack leaves the limit")
     held_on()
     rcv(R, 3000, 7, "198005", has="Ignored}"), due(R, has="; 5010 initiator 7/5"), look(R, has="due 5010 limit 5000 length 0 HoldOn")
-    tim(R, 5009, has="; none due"), tim(R, 5010, has="{IResultWait2 Timer HeldOnWaitEnds}"), assert_line(" {0: IResultWait2 -> Free}; fired initiator 7/5; abort initiator 7/5 reason 8 no data")
+    tim(R, 5009, has="; none due"), tim(R, 5010, has="{IResultWait2 Timer HeldOnWaitEnds}"), assert_line(" {0: IResultWait2 -> Free}; fired initiator 7/5; abort initiator 7/5 reason 8 no data; cost 4, ended")
     title("held on and then a TIDve: an ordinary timer again, which a later plain Ack doesn't stop and which starts no limit")
     held_on()
     rcv(R, 3000, 7, "1C8005", has="TidokSent}; sent 1C0005"), due(R, has="; 3160 initiator 7/5"), rcv(R, 3001, 7, "188005", has="Ignored}"), due(R, has="; 3160 initiator 7/5"), look(R, has="due 3160 length 0 HoldOn TIDok-sent")
@@ -892,7 +892,7 @@ def fired_until_free(e):
 
 # ---- 02, L4: unknown items
 
-IDENTITY = 624 + 24  # of the record at place 0, docs/TABLE.md
+IDENTITY, SPARE = 624 + 24, 624 + 29  # of the record at place 0, docs/TABLE.md
 
 
 def unknown_items():
@@ -934,8 +934,9 @@ def identities():
 
 
 def assert_told(end):
-    """The line before ends with this, and tells of no unknown item else."""
-    assert expected[-1].endswith(end) and ("; unknown" in expected[-1]) == bool(end), expected[-1]
+    """The line before ends with this, but for a cost, and tells of no unknown item else."""
+    told = expected[-1].split("; cost ")[0]
+    assert told.endswith(end) and ("; unknown" in told) == bool(end), expected[-1]
 
 
 def unknown_and_told():
@@ -1059,11 +1060,196 @@ def identities_made_up():
         e, role = reach(state)
         for identity in (0, 1, 5, 6, 15, 16, 128, 255):
             put(e, IDENTITY, identity), tim(e, 400, has="; none due" if identity in (0, 6, 15) else "refused 1"), due(e, has=": ok" if identity in (0, 6, 15) else "refused 1")
-        put(e, IDENTITY, 0), put(e, IDENTITY - 1, 6), tim(e, 400, has="refused 1"), put(e, IDENTITY - 1, 0), put(e, IDENTITY + 1, 6), tim(e, 400, has="refused 1")
+        put(e, IDENTITY, 0), put(e, IDENTITY - 1, 6), tim(e, 400, has="refused 1"), put(e, IDENTITY - 1, 0), put(e, SPARE, 6), tim(e, 400, has="refused 1")
     title("a free record with an identity isn't zero: number 1")
     pair()
     put(R, IDENTITY, 6), every_call("refused 1"), due(R, has="refused 1"), put(R, IDENTITY, 0), tim(R, 10, has="; none due")
 
+
+# ---- 02, L11: the cost
+
+def put_cost(e, place, octets):
+    """Makes this what the record at the place has cost: the octets of docs/TABLE.md."""
+    for at, octet in enumerate(octets.to_bytes(4, "little"), record_at(place) + 25):
+        if ends[e].octets[at] != octet:
+            put(e, at, octet)
+
+
+def told_cost(octets, ended=""):
+    """The line before tells this cost, and that the transaction ended or not; None: no cost."""
+    assert expected[-1].endswith("; cost %d%s" % (octets, ended)) if octets is not None else "cost" not in expected[-1], expected[-1]
+
+
+ENDED = ", ended"
+
+
+def costs():
+    title("02, L11: the reading's example. Invokes and TIDoks are counted, first and repeated, up to the Result; what is ignored tells the cost too, and Acks leave it")
+    as_read(2, 5)
+    req(R, 0, 7, 2, 0, "010203", has="; sent 0E000522010203; tid 5"), told_cost(7), tim(R, 150, has="; sent 0F000522010203"), told_cost(14)
+    rcv(R, 200, 7, "1C8005", has="TidokSent}; sent 1C0005"), told_cost(17), rcv(R, 210, 7, "1C8005", has="{IResultWait2 TidAck Ignored}"), told_cost(17)
+    rcv(R, 220, 7, "188005", has="HeldOn}"), told_cost(17), rcv(R, 230, 7, "38800500", has="{IResultWait2 Segmented Ignored}"), told_cost(17), rcv(R, 230, 7, "0E800502", has="{Nobody}"), told_cost(None)
+    look(R, has="HoldOn TIDok-sent TIDnew cost 17"), rcv(R, 240, 7, "168005 DD", has="ResultTaken}"), told_cost(17)
+    ans(R, 250, 0, 7, 5, "AA", has="; sent 98000509AA"), told_cost(17), rcv(R, 260, 7, "178005 DD", has="ResultSeenAgain}; sent 99000509AA"), told_cost(17), look(R, has="exit AA cost 17")
+    tim(R, 450, has="TimeoutEnds}"), assert_line(" {0: IWaitTimeout -> Free}; fired initiator 7/5; cost 17, ended"), look(R, has=": clock 450, next TID 6")
+    title("class 1: confirmed, and aborted by its user; with RCR_MAX 1 two Invokes attain the bound")
+    as_read(2, 6)
+    req(R, 0, 7, 1, 0, "01"), told_cost(5), rcv(R, 1, 7, "188006", has="Confirmed}"), assert_line(" {0: IResultWait1 -> Free}; confirm initiator 7/6 no data; cost 5, ended")
+    req(R, 2, 7, 1), told_cost(4), abo(R, 3, 0, 7, 7, 9), assert_line(" {0: IResultWait1 -> Free}; sent 21000709; cost 4, ended")
+    pair(_0=1)
+    req(R, 0, 7, 1, 0, "0102"), told_cost(6), tim(R, 2000, has="; sent 0F0007210102"), told_cost(12), tim(R, 4100, has="GivenUp}"), told_cost(12, ENDED)
+    costs_of_nobody()
+    costs_at_the_end()
+    costs_after_the_result()
+    costs_in_a_table()
+    costs_made_up()
+    costs_out_of_range()
+    costs_salvaged()
+
+
+def costs_of_nobody():
+    title("who names no initiator's record is told no cost: class 0, PDUs of one and two octets, of the wrong direction, of another peer or TID, no record due")
+    pair()
+    req(R, 10, 5, 0, 0, "AABB", has="; tid 7"), told_cost(None), req(R, 10, 5, 2, 0, "AA", has="; tid 8"), told_cost(5)
+    for peer, text in ((5, "18"), (5, "1880"), (5, "FFFF"), (5, "0E800802"), (5, "0E8008"), (5, "8F800802 30"), (5, "160008"), (5, "960008"), (6, "188008"), (5, "188009"), (5, "1C8009"), (5, "008009"), (5, "180008"), (6, "1C8008")):
+        rcv(R, 20, peer, text), told_cost(None)
+    tim(R, 20, has="; none due"), told_cost(None), due(R, has="; 3010 initiator 5/8"), told_cost(None), look(R, has="cost 5")
+    title("nor is who names a responder's record, in every state and whatever it sends; an initiator's of the same peer and TID keeps its own")
+    for state in STATES[5:]:
+        e, role = reach(state)
+        for text in ("0E000701", "0F000702", "180007", "1D0007", "380007 00"):
+            rcv(e, 400, 5, text), told_cost(None)
+        e, role = reach(state)
+        tim(e, 20000), told_cost(None), look(e), told_cost(None)
+        e, role = reach(state)
+        rcv(e, 400, 5, "200007 01"), told_cost(None)
+        e, role = reach(state)
+        rcv(e, 400, 5, "180007 00"), told_cost(None), ans(e, 400, role, 5, 7), res(e, 400, role, 5, 7), abo(e, 400, role, 5, 7, 0), told_cost(None)
+    pair()
+    req(R, 10, 5, 2, 0, "AA"), told_cost(5), rcv(R, 20, 5, "0E000702 BB", has="; sent 1C8007"), told_cost(None), rcv(R, 30, 5, "1C0007", has="Verified2}"), told_cost(None), res(R, 40, 1, 5, 7, "CC", has="; sent 168007CC"), told_cost(None)
+    rcv(R, 50, 5, "1C8007", has="; sent 1C0007"), told_cost(8), rcv(R, 60, 5, "180007", has="{RResultRespWait PlainAck Confirmed}"), told_cost(None), look(R, has="record 0 IResultWait2 5/7"), told_in_look(8)
+
+
+def told_in_look(octets):
+    assert expected[-1].endswith(" cost %d" % octets), expected[-1]
+
+
+def costs_at_the_end():
+    title("every end of an initiator's record tells what it had cost, the Abort PDU aside: abort row in each state, Abort 4, RCR_MAX, AEC_MAX, end of W")
+    for state in STATES[1:5]:
+        for text, has in (("208007 05", "PeerAborts}"), ("218007 C8", "PeerAborts}"), ("188007 00", "Malformed}; sent 20000701"), ("968007", "Malformed}; sent 20000701")):
+            e, role = reach(state)
+            rcv(e, 400, 5, text, has=has), told_cost(6, ENDED), rcv(e, 400, 5, text), told_cost(None)
+        e, role = reach(state)
+        abo(e, 400, role, 5, 7, 255, has="UserAborts}; sent 210007FF"), told_cost(6, ENDED)
+    for text in ("148007", "158007 AA"):
+        e, role = reach("IResultWait2")
+        rcv(e, 400, 5, text, has="ResultUnsupported}; sent 20000704"), told_cost(6, ENDED)
+        e, role = reach("IResultWait1")
+        rcv(e, 400, 5, text, has="Ignored}"), told_cost(6), rcv(e, 400, 5, "198007", has="Confirmed}"), told_cost(6, ENDED)
+    for cls in (1, 2):
+        pair(_0=0)
+        req(R, 10, 5, cls, 0, "AABB"), told_cost(6), rcv(R, 20, 5, "1C8007", has="Ignored}"), told_cost(6), tim(R, 5000, has="GivenUp}"), told_cost(6, ENDED)
+    e, role = reach("IResultRespWait", up=1)
+    fires(e, role, has="UserAwaited}"), told_cost(6), fires(e, role, has="UserAwaited}"), told_cost(6), fires(e, role, has="UserSilent}; sent 20000708"), told_cost(6, ENDED)
+    e, role = reach("IWaitTimeout")
+    fires(e, role, has="TimeoutEnds}"), told_cost(6, ENDED)
+    title("the waiting limit: held on, the wait's end tells what it cost; so does the end after a TIDve, whose TIDok is counted")
+    held_on()
+    told_after(5010, 4)
+    held_on()
+    rcv(R, 3000, 7, "1C8005", has="; sent 1C0005"), told_cost(7), tim(R, 3160, has="; sent 1D0005"), told_cost(10), rcv(R, 3170, 7, "1D8005", has="Ignored}"), told_cost(10), told_after(3330, 10)
+
+
+def told_after(time, octets):
+    """The firing at this time ends the one record with an abort and tells this cost."""
+    tim(R, time, has="; abort initiator 7/5 reason 8"), told_cost(octets, ENDED)
+
+
+def costs_after_the_result():
+    title("the cost stands still after the Result: last Ack by the timer or with the longest exit information, repeated, with an Error item too")
+    for exit_info, item in (("", ""), ("A1" * 128, ""), ("A1", " 30")):
+        pair()
+        req(R, 10, 5, 2, 1, "AABB"), tim(R, 3010), told_cost(12), rcv(R, 3020, 5, "%s8007%s" % ("96" if item else "16", item)), told_cost(12), rcv(R, 3030, 5, "1C8007", has="Ignored}"), told_cost(12)
+        ans(R, 3040, 0, 5, 7, exit_info, has="ResultAnswered}"), told_cost(12), rcv(R, 3050, 5, "178007", has="ResultSeenAgain}"), told_cost(12), rcv(R, 3060, 5, "158007"), told_cost(12), tim(R, 8040, has="TimeoutEnds}"), told_cost(12, ENDED)
+    pair()
+    req(R, 10, 5, 2), rcv(R, 20, 5, "168007"), told_cost(4), tim(R, 1020, has="ResultAcked}; sent 180007"), told_cost(4), fir(R, 6020, 0, 5, 7, has="TimeoutEnds}"), told_cost(4, ENDED)
+    title("a first contact between the two ends, class 1 and 2: an Invoke and a TIDok")
+    for cls in (1, 2):
+        first_contact(cls)
+        (ans if cls == 1 else res)(G, 140, 1, 5, 7, "77"), told_cost(None), get(R, 150, 5), told_cost(9, ENDED if cls == 1 else "")
+
+
+def costs_in_a_table():
+    title("each request has a cost of its own, whichever is named, fired or ended; a place that is used again begins anew")
+    pair(records=3)
+    req(R, 10, 5, 2, 0, "AA"), told_cost(5), req(R, 20, 6, 1, 0, "BBBB"), told_cost(6), req(R, 30, 7, 2, 1), told_cost(4), tim(R, 2020, has="fired initiator 6/8"), told_cost(12), rcv(R, 2030, 5, "1C8007"), told_cost(8), fir(R, 9000, 0, 7, 9), told_cost(8)
+    rcv(R, 9010, 5, "188007", has="HeldOn}"), told_cost(8), rcv(R, 9020, 6, "188008", has="Confirmed}"), told_cost(12, ENDED), req(R, 9030, 6, 2), told_cost(4), look(R, has=["record 0 IResultWait2 5/7", "record 1 IResultWait2 6/10", "record 2 IResultWait2 7/9"])
+    title("a refused call tells nothing, and the record keeps its cost")
+    pair()
+    req(R, 10, 5, 1, 0, "AA"), ans(R, 20, 0, 5, 7, has="refused 9"), told_cost(None), res(R, 20, 0, 5, 7, has="refused 9"), told_cost(None), fir(R, 20, 0, 5, 7, has="refused 9"), told_cost(None), req(R, 9, 5, 1, has="refused 2"), told_cost(None), look(R, has="length 1 TIDnew cost 5")
+    title("the bound, (1 + RCR_MAX) times (4 + n): attained by Invokes alone, with 1,024 octets at RCR_MAX 8 too, and not with a TIDok among them")
+    for rcr_max, n, bound in ((0, 0, 4), (0, 1024, 1028), (2, 3, 21), (8, 0, 36), (8, 1024, 9252)):
+        for cls in (1, 2):
+            pair(_0=rcr_max)
+            req(R, 0, 5, cls, 0, "5A" * n), told_cost(4 + n)
+            for k in range(rcr_max):
+                tim(R, 10000 * (k + 1), has="Resent}"), told_cost((2 + k) * (4 + n))
+            tim(R, 100000, has="GivenUp}"), told_cost(bound, ENDED)
+    pair(_0=2)
+    req(R, 0, 5, 1, 0, "AABBCC"), tim(R, 2000), told_cost(14), rcv(R, 2010, 5, "1C8007"), told_cost(17), tim(R, 9000, has="GivenUp}"), told_cost(17, ENDED)
+
+
+def costs_made_up():
+    title("a made-up table: the sum stops at (1 + RCR_MAX) times 1,028, whatever the request has sent")
+    for before, after in ((3077, 3083), (3078, 3084), (3079, 3084), (3083, 3084), (3084, 3084)):
+        for cls in (1, 2):
+            pair(_0=2)
+            req(R, 10, 5, cls, 0, "AABB"), put_cost(R, 0, before), rcv(R, 20, 5, "388007 00", has="Ignored}"), told_cost(before), tim(R, 9000, has="; sent 0F00072%dAABB" % cls), told_cost(after), look(R), told_in_look(after)
+    for before, after in ((3080, 3083), (3081, 3084), (3082, 3084), (3084, 3084)):
+        pair(_0=2)
+        req(R, 10, 5, 2), put_cost(R, 0, before), rcv(R, 20, 5, "1C8007", has="; sent 1C0007"), told_cost(after), tim(R, 9000, has="; sent 1D0007"), told_cost(min(after + 3, 3084))
+    title("a record that was kept from before there was a cost: it counts from 0, and where it sends no more its report is 0")
+    pair()
+    req(R, 10, 5, 2, 0, "AA"), put_cost(R, 0, 0), rcv(R, 20, 5, "388007 00", has="Ignored}"), told_cost(None), tim(R, 3010, has="; sent 0F000722AA"), told_cost(5)
+    put_cost(R, 0, 0), rcv(R, 3020, 5, "188007", has="HeldOn}"), told_cost(None), abo(R, 3030, 0, 5, 7, 1, has="; sent 21000701"), told_cost(0, ENDED)
+    title("a cost that was put there is told as it stands in the states after the Result")
+    for state in ("IResultRespWait", "IWaitTimeout"):
+        e, role = reach(state)
+        put_cost(e, 0, 5140), rcv(e, 400, 5, "188007", has="Ignored}"), told_cost(5140), fires(e, role), told_cost(5140, ENDED if state == "IWaitTimeout" else "")
+
+
+def costs_out_of_range():
+    title("number 1: a cost over (1 + RCR_MAX) times 1,028 in an initiator's record, any in a responder's, in every state; a free record with one isn't zero")
+    for state, rcr_max, most in [(state, 4, 5140) for state in STATES[1:]] + [("IResultWait1", 0, 1028), ("IWaitTimeout", 8, 9252)]:
+        e, role = reach(state, _0=rcr_max)
+        for cost in (0, 1, most, most + 1, 65536, 2 ** 24):
+            good = cost <= (most if role == 0 else 0)
+            put_cost(e, 0, cost), tim(e, 400, has="; none due" if good else "refused 1")
+        due(e, has="refused 1")
+    e, role = reach("IResultWait2")
+    put_cost(e, 0, 5140), tim(e, 400, has="; none due"), put(e, 10, 3), tim(e, 400, has="refused 1"), put(e, 10, 5), tim(e, 400, has="; none due")
+    pair()
+    for at in range(25, 29):
+        put(R, record_at(0) + at, 1), every_call("refused 1"), due(R, has="refused 1"), put(R, record_at(0) + at, 0)
+    tim(R, 10, has="; none due")
+
+
+def costs_salvaged():
+    title("salvage: a cost out of range is reason 1, by the table's own RCR_MAX; a record that stays keeps its cost and goes on telling it")
+    for place, cost in ((0, 3085), (1, 2 ** 32 - 1), (2, 1), (3, 3084)):
+        six_places()
+        put_cost(R, place, cost), salvaged((place, 1))
+    six_places()
+    put_cost(R, 4, 1), salvaged((4, 2))
+    six_places()
+    put_cost(R, 0, 3084), put_cost(R, 1, 2057), sal(R, has=": ok; 0 salvaged"), put(R, 10, 1), salvaged((0, 1), (1, 1))
+    six_places()
+    tim(R, 160, has="fired initiator 7/5"), told_cost(10), fill(R, 1, 255), sal(R, has="; 1 salvaged, place 1 reason 1"), rcv(R, 170, 7, "1C8005", has="; sent 1C0005"), told_cost(13), rcv(R, 180, 7, "168005 DD", has="ResultConfirms}"), told_cost(13)
+    req(R, 190, 7, 1, 0, "EE"), told_cost(5), rcv(R, 200, 7, "188007", has="Confirmed}"), told_cost(5, ENDED), ans(R, 210, 0, 7, 5), told_cost(13), tim(R, 410, has="TimeoutEnds}"), told_cost(13, ENDED)
+
+
+# ---- 02, L12: salvage
 
 def six_places():
     """The reading's example: initiators 7/5 and 7/6 at places 0 and 1, responders 7/5 and 7/6 at 2 and 3, and two free places."""
@@ -1116,7 +1302,7 @@ def salvaged_records():
     title("a record whose state is damaged to another one of its role stays, and one of the other role has another name")
     as_read(2, 5)
     req(R, 10, 7, 2), copy(R, 0, 1), put(R, record_at(1), 4), sal(R, has="{1: IWaitTimeout -> Free}; 1 salvaged, place 1 reason 3")
-    copy(R, 0, 1), put(R, record_at(1), 11), put(R, record_at(1) + 6, 0), sal(R, has="; 0 salvaged"), look(R, has="record 1 RWaitTimeout 7/5")
+    copy(R, 0, 1), put(R, record_at(1), 11), put(R, record_at(1) + 6, 0), put_cost(R, 1, 0), sal(R, has="; 0 salvaged"), look(R, has="record 1 RWaitTimeout 7/5")
     for at in (1, 2, 3):
         as_read(2, 5)
         req(R, 10, 7, 2), copy(R, 0, 1), put(R, record_at(1) + at, 9), sal(R, has="; 0 salvaged")
@@ -1372,6 +1558,8 @@ def needed():
     openers = ["Valid1", "Valid2", "ToVerify1", "ToVerify2", "Restarted1", "Restarted2"]
     yield from (("identity", row, item) for row in openers + ["ResultTaken", "ResultConfirms"] for item in ("unknown item", "none"))
     yield from (("identity", row, "none, and one before") for row in ("ResultTaken", "ResultConfirms"))
+    yield from (("cost told", state, ended + event) for state, ended, event in costs_needed(events["I"]))
+    yield from (("cost", where, "") for where in ("below the bound", "the bound itself", "stops at the bound"))
     forms = [(state, form) for state in ("IWaitTimeout", "RWaitTimeout") for form in ("no exit", "short exit", "long exit")] + [("RResultWait", "no exit")]
     yield from ((ack, state, form + item) for ack in ("Ack", "Ack again") for state, form in forms for item in ("", ", unknown item"))
     yield from (("timer", "fired", c) for c in ("alone", "later ones due", "a tie"))
@@ -1391,6 +1579,16 @@ def needed():
     yield from (("edge", text, "") for text in EDGES)
     yield from (("row", row, "") for row in ROWS.split())
     yield from (("row", "opening " + row, "") for row in OPENINGS.split())
+
+
+def costs_needed(events):
+    """Each initiator's state with each event that isn't refused there, and whether the record ends with it."""
+    always = {"IResultWait1": ["Ack", "Ack RID"], "IResultWait2": ["Result cut", "Result cut RID"], "IResultRespWait": [], "IWaitTimeout": ["timer"]}
+    for state, ending in always.items():
+        refused = ["result"] if state == "IResultRespWait" else ["answer", "result"]
+        ending = ending + ["Abort", "malformed", "abort"]
+        yield from ((state, "ended by ", event) for event in ending + ["timer"])
+        yield from ((state, "", event) for event in events + ["timer"] if event not in ending + refused)
 
 
 EDGES = ["data 1,025 and peer 256", "data 1,025, class 3", "class 3 at a full table", "class 2, GenTID live, table full", "time below clock and everything else wrong", "damaged table and time wrong",
@@ -1416,6 +1614,7 @@ timers()
 timer_in_two()
 waiting_limit()
 unknown_items()
+costs()
 salvage()
 refusals()
 mixups()

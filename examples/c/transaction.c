@@ -1,6 +1,6 @@
 /* Five class 2 transactions between a reader (the initiator) and a gateway (the responder): a result with data, one whose
  * Invoke is lost and sent again, a result without data, an abort, and one that nobody answers, which the waiting limit ends.
- * Each is shown to the reader as what it is. */
+ * Each is shown to the reader as what it is, with what the reader has sent for it. */
 #include <stdio.h>
 #include <stdlib.h>
 #include <string.h>
@@ -45,7 +45,7 @@ static void start(struct end *e)
     must(wtp_fresh(e->table, e->table_len, settings, WTP_SETTINGS, 5));
 }
 
-/* What the user of this end is shown; the data lies in the PDU or in the store. */
+/* What the user of this end is shown, and what its own request has cost; the data lies in the PDU or in the store. */
 static void show(const struct end *e, const uint8_t *pdu)
 {
     for (uint64_t k = 0; k < e->answer[WTP_INDICATIONS]; k++) {
@@ -68,6 +68,9 @@ static void show(const struct end *e, const uint8_t *pdu)
             break;
         }
     }
+    if (e->answer[WTP_INDICATIONS] > 0 && e->answer[WTP_COST] > 0)
+        printf("  by now the %s's request has cost %u octets%s\n", e->name, (unsigned)e->answer[WTP_COST],
+               e->answer[WTP_COST_ENDED] ? ", and it has ended" : "");
 }
 
 /* Takes the PDUs to and fro until neither end has one to send. */

@@ -45,7 +45,7 @@ for number in $(seq 20 43); do
     *) echo "$number,value,NO2 $number.5 ug/m3" ;;
     esac
 done >>"$work/many-results.csv"
-# outcomes FILE: each sampler has what the laboratory's file says.
+# outcomes FILE: each sampler has what the laboratory's file says, and a cost, whoever was killed: one to nine Invokes of 14.
 outcomes() {
     python3 -c 'import csv, sys
 book = {row["sampler"]: row for row in csv.DictReader(open(sys.argv[1]))}
@@ -54,7 +54,8 @@ rows = list(csv.DictReader(open(sys.argv[2], newline=""), strict=True))
 assert len(rows) == len(book) == 24
 for row in rows:
     entry = book[row["sampler"]]
-    assert row["outcome"] == kinds[entry["answer"]] and row["value"] == (entry["detail"] or ""), row' "$work/many-results.csv" "$1"
+    assert row["outcome"] == kinds[entry["answer"]] and row["value"] == (entry["detail"] or ""), row
+    assert 14 <= int(row["octets"]) <= 126, row' "$work/many-results.csv" "$1"
 }
 # again_and_again: a gateway that is killed five times while a reader asks it over a bad line.
 again_and_again() {

@@ -3,8 +3,8 @@
 use kit::layout::{self, Field, LONGEST};
 use kit::Random;
 
-/// The fields of a record; what RCR and AEC may be is what the settings say.
-const OF_RECORD: [Field; 11] = [
+/// The fields of a record; what RCR, AEC and cost may be is what the settings say.
+const OF_RECORD: [Field; 12] = [
     layout::STATE,
     layout::PEER,
     layout::TID,
@@ -16,6 +16,7 @@ const OF_RECORD: [Field; 11] = [
     layout::MESSAGE,
     layout::LIMIT,
     layout::UNKNOWN,
+    layout::COST,
 ];
 
 /// Changes the table of so many records in one of several ways; it may still be well formed then.
@@ -23,7 +24,7 @@ pub fn damage(random: &mut Random, table: &mut [u8], records: usize) {
     let place = random.place(records);
     let of_header = header_field(random);
     let of_record = random.of(&OF_RECORD).of_record(place);
-    match random.below(13) {
+    match random.below(14) {
         0 => scribble(random, table, layout::table_bytes(records)),
         1 => set_edge(random, table, of_header),
         2 | 11 => {
@@ -37,6 +38,7 @@ pub fn damage(random: &mut Random, table: &mut [u8], records: usize) {
         7 => free_with_one_octet(random, table, place),
         8 => set_in_range(random, table, of_header),
         12 => limit_waits(random, table),
+        13 => nearly_spend(random, table, place),
         _ => put_odd_record(random, table, place),
     }
 }
@@ -97,6 +99,13 @@ fn limit_waits(random: &mut Random, table: &mut [u8]) {
     layout::MODES.set(table, if random.percent(80) { u64::from(limit != 0) } else { random.below(4) });
 }
 
+/// Gives a record of either role a cost about the most that one may have, in range or not.
+fn nearly_spend(random: &mut Random, table: &mut [u8], place: usize) {
+    put_odd_record(random, table, place);
+    let most = layout::most_cost(layout::RCR_MAX.get(table));
+    layout::COST.of_record(place).set(table, random.of(&[1, most - 4, most - 3, most - 1, most, most, most + 1]));
+}
+
 /// Makes GenTID the TID of a record, so that a request finds it in use.
 fn meet_gen_tid(random: &mut Random, table: &mut [u8], place: usize) {
     put_odd_record(random, table, place);
@@ -118,7 +127,11 @@ fn put_odd_record(random: &mut Random, table: &mut [u8], place: usize) {
     let clock = layout::CLOCK.get(table);
     let start = layout::table_bytes(place);
     let state = 1 + random.below(layout::STATES);
-    let flags = if state <= layout::INITIATOR_STATES { layout::FLAGS.most } else { layout::RESPONDER_FLAGS };
+    let (flags, cost) = if state <= layout::INITIATOR_STATES {
+        (layout::FLAGS.most, layout::most_cost(layout::RCR_MAX.get(table)))
+    } else {
+        (layout::RESPONDER_FLAGS, 0)
+    };
     let values = [
         state,
         random.below(4),
@@ -131,6 +144,7 @@ fn put_odd_record(random: &mut Random, table: &mut [u8], place: usize) {
         random.of(&[0, 1, 7, 1023, 1024]),
         random.of(&[0, 0, 1, 9, LONGEST]),
         random.of(&[0, 0, layout::UNKNOWN.least, 9, layout::UNKNOWN.most]),
+        random.of(&[0, cost.min(7), cost / 2, cost.saturating_sub(3), cost]),
     ];
     table[start..start + layout::EXIT].fill(0);
     OF_RECORD.iter().zip(values).for_each(|(field, value)| field.of_record(place).set(table, value));

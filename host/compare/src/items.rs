@@ -32,7 +32,7 @@ impl Items {
         if matches!(kind, Kind::Receive { .. }) && !is_malformed(row) {
             self.add(Of::Received, row, left.words[UNKNOWN] != 0);
         }
-        if sends(kind) && left.words[0] > 0 && left.out[0] & PLAIN_ACK.0 == PLAIN_ACK.1 {
+        if left.words[0] > 0 && left.out[0] & PLAIN_ACK.0 == PLAIN_ACK.1 {
             self.add(Of::Sent, row, left.out[0] & CON != 0 && left.out[3] & !CON == ERROR_ITEM);
         }
     }
@@ -57,11 +57,6 @@ fn told(of: Of, row: Row) -> String {
         Of::Received => format!("with an unknown item: {}", row.name()),
         Of::Sent => format!("an Error item sent: {}", row.name()),
     }
-}
-
-/// Whether word 0 of the call's words is how many octets it sent.
-fn sends(kind: Kind) -> bool {
-    !matches!(kind, Kind::Deadline | Kind::Salvage)
 }
 
 /// Whether only malformed PDUs reach the row; of these nothing is told.

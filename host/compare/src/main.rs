@@ -6,6 +6,7 @@ mod aim;
 mod buffers;
 mod calls;
 mod codec;
+mod costs;
 mod damage;
 mod data;
 mod datagrams;
@@ -48,7 +49,8 @@ Usage: compare [--seed N] [--calls N] [--rds-calls N] [--rows]
 Where a timer call fires a record, the same is done once more on copies by the calls deadline and fire, and must leave the same.
 A table that was salvaged must be well formed and the same when it is salvaged again; then calls go on with it.
 Progress goes to the standard error. At the end each row and each outcome of the codec is listed with how often it was reached, and
-each row of a received PDU and of a plain Ack with how often an unknown item was in it, and an Error item.
+each row of a received PDU and of a plain Ack with how often an unknown item was in it, and an Error item, and each row of an
+initiator's record with how often it told a cost, and the end where the record ends.
 Exit status: 0 all calls the same and every row reached, 1 a difference or a row never reached, 2 wrong arguments.
 
 Example: compare --seed 7 --calls 5000000";

@@ -90,7 +90,7 @@ impl Pair {
         }
         self.tally.count(call.kind, said[1]);
         if let (0, Some(row)) = (said[1].number, said[1].row) {
-            self.tally.count_items(call.kind, row, library);
+            self.tally.count_told(call.kind, row, library);
         }
         if call.kind == Kind::Salvage && said[1].number == 0 {
             self.tally.count_reasons(&twin.words);

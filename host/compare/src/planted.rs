@@ -118,6 +118,46 @@ fn told_where_its_data_starts(call: &Call, buffers: &mut Buffers) -> Said {
     said
 }
 
+/// The library, but an ignored PDU tells no cost.
+fn costs_nothing_where_ignored(call: &Call, buffers: &mut Buffers) -> Said {
+    let before = buffers.table.clone();
+    let said = library(call, buffers);
+    let changed = before[layout::HEADER..] != buffers.table[layout::HEADER..];
+    if matches!(call.kind, Kind::Receive { .. }) && said.number == 0 && !changed && buffers.words[0] == 0 {
+        buffers.words[32] = 0;
+    }
+    said
+}
+
+/// The library, but the Abort that a user's abort sends is counted.
+fn counts_the_abort(call: &Call, buffers: &mut Buffers) -> Said {
+    let said = library(call, buffers);
+    if matches!(call.kind, Kind::Abort { .. }) && said.number == 0 && buffers.words[33] == 1 {
+        buffers.words[32] += buffers.words[0];
+    }
+    said
+}
+
+/// The library, but a request that ends by its timer isn't reported.
+fn ends_unreported(call: &Call, buffers: &mut Buffers) -> Said {
+    let said = library(call, buffers);
+    if matches!(call.kind, Kind::Timer { .. }) && said.number == 0 {
+        buffers.words[33] = 0;
+    }
+    said
+}
+
+/// The library, but a record that pays keeps one octet too few.
+fn keeps_too_little(call: &Call, buffers: &mut Buffers) -> Said {
+    let said = library(call, buffers);
+    let field = layout::COST.of_record(0);
+    if matches!(call.kind, Kind::Request { .. }) && said.number == 0 && field.get(&buffers.table) > 0 {
+        let kept = field.get(&buffers.table);
+        field.set(&mut buffers.table, kept - 1);
+    }
+    said
+}
+
 fn refused_with_another_number(call: &Call, buffers: &mut Buffers) -> Said {
     let said = library(call, buffers);
     Said { number: if said.number == 7 { 6 } else { said.number }, ..said }
@@ -154,6 +194,28 @@ fn another_place_of_an_unknown_item_is_found() {
     let found = found(told_where_its_data_starts);
     assert!(found.call.starts_with("receive: "));
     assert_eq!(found.difference.place, Place::Word(35));
+}
+
+#[test]
+fn another_cost_or_end_is_found() {
+    let wrong = [
+        (costs_nothing_where_ignored as Side, 32, "receive: "),
+        (counts_the_abort, 32, "abort: "),
+        (ends_unreported, 33, "timer: "),
+    ];
+    for (wrong, word, call) in wrong {
+        let found = found(wrong);
+        assert!(found.call.starts_with(call));
+        assert_eq!(found.difference.place, Place::Word(word));
+    }
+}
+
+#[test]
+fn another_cost_that_is_kept_is_found() {
+    let found = found(keeps_too_little);
+    assert!(found.call.starts_with("request: "));
+    let octets = layout::table_bytes(0) + layout::COST.at;
+    assert!(matches!(found.difference.place, Place::Table(at) if (octets..octets + layout::COST.octets).contains(&at)));
 }
 
 #[test]

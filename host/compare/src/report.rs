@@ -58,6 +58,7 @@ fn tell_record(view: View, place: usize, told: &mut String) {
         ("message length", layout::MESSAGE),
         ("waiting limit in force", layout::LIMIT),
         ("unknown item", layout::UNKNOWN),
+        ("cost", layout::COST),
     ];
     let _ = write!(told, "  record {place}:");
     for (name, field) in fields {

@@ -2,6 +2,7 @@
 
 use crate::buffers::Buffers;
 use crate::calls::Kind;
+use crate::costs::Costs;
 use crate::items::Items;
 use crate::sides::Said;
 use kit::with_commas;
@@ -34,6 +35,7 @@ pub struct Tally {
     reasons: BTreeMap<u64, u64>,
     outcomes: BTreeMap<(&'static str, u64), u64>,
     items: Items,
+    costs: Costs,
 }
 
 impl Tally {
@@ -47,9 +49,13 @@ impl Tally {
         }
     }
 
-    /// Counts what an accepted call of this row told and sent of unknown items.
-    pub fn count_items(&mut self, kind: Kind, row: Row, left: &Buffers) {
-        self.items.count(kind, row, left);
+    /// Counts what an accepted call of this row told and sent of unknown items, and what it told of a cost.
+    pub fn count_told(&mut self, kind: Kind, row: Row, left: &Buffers) {
+        // The words of a deadline and of a list are no answer.
+        if !matches!(kind, Kind::Deadline | Kind::Salvage) {
+            self.items.count(kind, row, left);
+            self.costs.count(row, left);
+        }
     }
 
     /// Counts the places of a list that salvage wrote, by their reasons.
@@ -82,7 +88,7 @@ impl Tally {
     pub fn never_reached(&self) -> Vec<String> {
         let rows = Row::ALL.iter().filter(|row| self.row(**row) == 0).map(|row| row.name().to_string());
         let outcomes = self.outcomes().filter(|(_, count)| *count == 0).map(|(name, _)| name);
-        rows.chain(outcomes).chain(self.items.never_reached()).collect()
+        rows.chain(outcomes).chain(self.items.never_reached()).chain(self.costs.never_reached()).collect()
     }
 }
 
@@ -99,7 +105,8 @@ impl fmt::Display for Tally {
     fn fmt(&self, f: &mut fmt::Formatter) -> fmt::Result {
         Row::ALL.iter().try_for_each(|row| writeln!(f, "{:>11}  {}", with_commas(self.row(*row)), row.name()))?;
         self.outcomes().try_for_each(|(name, count)| writeln!(f, "{:>11}  {name}", with_commas(count)))?;
-        self.items.all().try_for_each(|(name, count)| writeln!(f, "{:>11}  {name}", with_commas(count)))
+        let told = self.items.all().chain(self.costs.all());
+        told.into_iter().try_for_each(|(name, count)| writeln!(f, "{:>11}  {name}", with_commas(count)))
     }
 }
 
@@ -123,5 +130,21 @@ mod tests {
         assert_eq!(tally.never_reached().len(), all - 3, "what is past the places isn't counted");
         assert!(missing.contains(&"write D4".to_string()));
         assert!(missing.contains(&"fresh refused 10".to_string()));
+    }
+
+    #[test]
+    fn a_deadline_and_a_list_of_salvaged_places_tell_no_items_and_no_cost() {
+        let mut left = Buffers::default();
+        left.resize(1);
+        left.words.fill(1);
+        left.out.fill(0x18);
+        let told = |kind, row| {
+            let mut tally = Tally::default();
+            tally.count_told(kind, row, &left);
+            tally.to_string().matches("a cost told").count() + tally.to_string().matches("an Error item sent").count()
+        };
+        assert_eq!(told(Kind::Deadline, Row::DeadlineTold), 0);
+        assert_eq!(told(Kind::Salvage, Row::SalvageChanged), 0);
+        assert_eq!(told(Kind::Timer { now: 0 }, Row::IWaitTimeoutTimer), 2);
     }
 }

@@ -83,7 +83,7 @@ impl Conversation {
     /// Fires what is due, and then waits for a datagram, until the next deadline or this time at most.
     fn turn(&mut self, until: u64) -> Result<Vec<Shown>, String> {
         let mut step = Step::default();
-        let mut shown = step.fire(&mut self.table, self.post.now());
+        let mut shown: Vec<_> = step.fire(&mut self.table, self.post.now()).into_iter().map(|(shown, _)| shown).collect();
         self.send(step)?;
         let mut step = Step::default();
         match self.post.hear(earliest(&[due(&self.table), Some(until)])) {

@@ -55,9 +55,16 @@ pub const MESSAGE: Field = field(16, 4, 0, 1024);
 pub const LIMIT: Field = field(20, 4, 0, LONGEST);
 /// The identity of an unknown item; 0 where there is none.
 pub const UNKNOWN: Field = field(24, 1, 6, 15);
+/// What an initiator's record has cost, up to `most_cost`; a responder's is 0.
+pub const COST: Field = field(25, 4, 0, most_cost(RCR_MAX.most));
 /// Spare octets of a record lie from here to its exit information.
-pub const RECORD_SPARE: usize = 25;
+pub const RECORD_SPARE: usize = 29;
 pub const EXIT: usize = 48;
+
+/// The most that an initiator's record may have cost in a table with this RCR_MAX.
+pub const fn most_cost(rcr_max: u64) -> u64 {
+    (1 + rcr_max) * (4 + CELL as u64)
+}
 
 pub fn table_bytes(records: usize) -> usize {
     HEADER + RECORD * records
@@ -101,6 +108,12 @@ mod tests {
         TID.of_record(1).set(&mut table, 0x1234);
         assert_eq!(&table[HEADER + RECORD + 2..][..2], [0x34, 0x12]);
         assert_eq!(TID.of_record(1).get(&table), 0x1234);
+    }
+
+    #[test]
+    fn a_record_may_have_cost_as_much_as_its_rcr_max_lets_it() {
+        assert_eq!([0, 1, 8].map(most_cost), [1_028, 2_056, COST.most]);
+        assert_eq!(COST.at + COST.octets, RECORD_SPARE);
     }
 
     #[test]

@@ -23,7 +23,7 @@ pub struct Desk {
 impl End for Desk {
     fn tick(&mut self, now: u64) -> Step {
         let mut step = Step::default();
-        for shown in step.fire(&mut self.table, now) {
+        for (shown, _) in step.fire(&mut self.table, now) {
             self.shown(now, shown, &mut step);
         }
         self.damage(&mut step);

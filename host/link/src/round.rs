@@ -6,7 +6,7 @@ use crate::outcome::{Aborted, Cause, Outcome, Why};
 use crate::payload::Sampler;
 use crate::reason;
 use crate::standing::{Noted, Standing, SAMPLER};
-use crate::step::{due, earliest, End, Packet, Step};
+use crate::step::{cost, due, earliest, End, Packet, Step};
 use std::collections::VecDeque;
 use wtp::{Name, Refused, Role, Shown, Table};
 
@@ -36,6 +36,8 @@ pub struct Round {
     manner: Manner,
     samplers: Vec<Sampler>,
     outcomes: Vec<Option<Outcome>>,
+    /// What the request cost that brought each outcome; 0 where there was none.
+    costs: Vec<u32>,
     /// The samplers that are still to be asked for.
     to_ask: VecDeque<usize>,
     asked: Vec<Asked>,
@@ -48,8 +50,8 @@ impl End for Round {
     /// Fires timers, gives up what took too long, and asks for more samplers.
     fn tick(&mut self, now: u64) -> Step {
         let mut step = Step::default();
-        for shown in step.fire(&mut self.table, now) {
-            self.shown(now, &shown, Cause::Timer, &mut step);
+        for (shown, cost) in step.fire(&mut self.table, now) {
+            self.shown(now, &shown, Cause::Timer, cost, &mut step);
         }
         self.give_up(now, &mut step);
         self.ask_more(now, &mut step);
@@ -81,8 +83,9 @@ impl End for Round {
 
 impl Round {
     pub fn new(table: Table, samplers: Vec<Sampler>, manner: Manner) -> Round {
-        let (outcomes, to_ask) = (vec![None; samplers.len()], (0..samplers.len()).collect());
-        Round { table, manner, samplers, outcomes, to_ask, asked: Vec::new(), lingers_until: 0, told: false }
+        let (outcomes, costs) = (vec![None; samplers.len()], vec![0; samplers.len()]);
+        let to_ask = (0..samplers.len()).collect();
+        Round { table, manner, samplers, outcomes, costs, to_ask, asked: Vec::new(), lingers_until: 0, told: false }
     }
 
     /// Goes on from what was kept: with the samplers that were noted, or with any where the outcomes of the last ones were told. A
@@ -101,7 +104,7 @@ impl Round {
         for (place, Noted { standing, .. }) in noted.into_iter().enumerate() {
             match standing {
                 Standing::Asked { tid, since } if live.contains(&name(tid)) => round.asked.push(Asked { tid, place, since }),
-                Standing::Known(outcome) => round.outcomes[place] = Some(outcome),
+                Standing::Known { outcome, cost } => round.finish(place, outcome, cost),
                 Standing::Asked { .. } | Standing::ToAsk => continue,
             }
             round.to_ask.retain(|waiting| *waiting != place);
@@ -117,7 +120,7 @@ impl Round {
     fn standing(&self, place: usize) -> Standing {
         let asked = self.asked.iter().find(|asked| asked.place == place);
         match (&self.outcomes[place], asked) {
-            (Some(outcome), _) => Standing::Known(outcome.clone()),
+            (Some(outcome), _) => Standing::Known { outcome: outcome.clone(), cost: self.costs[place] },
             (None, Some(Asked { tid, since, .. })) => Standing::Asked { tid: *tid, since: *since },
             (None, None) => Standing::ToAsk,
         }
@@ -127,8 +130,9 @@ impl Round {
         let mut step = Step::default();
         for pdu in step.separated(GATEWAY, datagram) {
             let taken = self.table.receive(now, GATEWAY, pdu);
+            let cost = cost(&taken);
             for shown in step.take(GATEWAY, taken) {
-                self.shown(now, &shown, Cause::Received, &mut step);
+                self.shown(now, &shown, Cause::Received, cost, &mut step);
             }
         }
         step
@@ -142,8 +146,9 @@ impl Round {
     /// The same for another reason.
     pub fn stop(&mut self, now: u64, why: Why) -> Step {
         let mut step = Step::default();
-        for asked in std::mem::take(&mut self.asked) {
-            self.abort(now, asked.tid, reason::STOPPED, &mut step);
+        for Asked { tid, place, .. } in std::mem::take(&mut self.asked) {
+            let cost = self.abort(now, tid, reason::STOPPED, &mut step);
+            self.finish(place, Outcome::NoAnswer(why), cost);
         }
         self.to_ask.clear();
         for outcome in &mut self.outcomes {
@@ -155,6 +160,11 @@ impl Round {
     /// The outcome of each sampler, in the order of the samplers; none as long as it isn't there.
     pub fn outcomes(&self) -> &[Option<Outcome>] {
         &self.outcomes
+    }
+
+    /// What the request for each sampler cost up to its outcome, in octets; 0 as long as there is none, or where it wasn't asked for.
+    pub fn costs(&self) -> &[u32] {
+        &self.costs
     }
 
     pub fn finished(&self) -> usize {
@@ -181,8 +191,8 @@ impl Round {
                 // A record ends sooner or later, so it is tried again.
                 Err(Refused::TableFull | Refused::TidInUse) => return,
                 Ok(Some(tid)) => self.asked.push(Asked { tid, place, since: now }),
-                Ok(None) => self.finish(place, Outcome::NoAnswer(Why::NotAsked(Refused::Unreadable))),
-                Err(why) => self.finish(place, Outcome::NoAnswer(Why::NotAsked(*why))),
+                Ok(None) => self.finish(place, Outcome::NoAnswer(Why::NotAsked(Refused::Unreadable)), 0),
+                Err(why) => self.finish(place, Outcome::NoAnswer(Why::NotAsked(*why)), 0),
             }
             step.take(GATEWAY, taken);
             self.to_ask.pop_front();
@@ -196,12 +206,12 @@ impl Round {
         self.asked = asked;
         let late: Vec<Asked> = late;
         for Asked { tid, place, since } in late {
-            self.abort(now, tid, reason::GAVE_UP, step);
-            self.finish(place, Outcome::NoAnswer(Why::GaveUp(now.saturating_sub(since))));
+            let cost = self.abort(now, tid, reason::GAVE_UP, step);
+            self.finish(place, Outcome::NoAnswer(Why::GaveUp(now.saturating_sub(since))), cost);
         }
     }
 
-    fn shown(&mut self, now: u64, shown: &Shown, cause: Cause, step: &mut Step) {
+    fn shown(&mut self, now: u64, shown: &Shown, cause: Cause, cost: u32, step: &mut Step) {
         let Name { tid, .. } = shown.of();
         let outcome = match Outcome::of(shown, cause) {
             Some(outcome) => outcome,
@@ -213,15 +223,19 @@ impl Round {
         };
         match outcome {
             Outcome::Value(_) | Outcome::EmptyResult => self.answer(now, tid, step),
-            Outcome::Abort(Aborted::Unreadable(_)) => self.abort(now, tid, reason::UNREADABLE, step),
+            Outcome::Abort(Aborted::Unreadable(_)) => {
+                self.abort(now, tid, reason::UNREADABLE, step);
+            }
             Outcome::Abort(Aborted::Shown(_)) | Outcome::NoAnswer(_) => {}
         }
-        self.finish(place, outcome);
+        self.finish(place, outcome, cost);
     }
 
-    fn finish(&mut self, place: usize, outcome: Outcome) {
+    /// The first outcome stays, and what it cost.
+    fn finish(&mut self, place: usize, outcome: Outcome, cost: u32) {
         if let Some(empty @ None) = self.outcomes.get_mut(place) {
             *empty = Some(outcome);
+            self.costs[place] = cost;
         }
     }
 
@@ -231,9 +245,12 @@ impl Round {
         self.lingers_until = now.saturating_add(self.manner.linger);
     }
 
-    fn abort(&mut self, now: u64, tid: u16, reason: u8, step: &mut Step) {
+    /// Aborts a request, and gives back what it has cost.
+    fn abort(&mut self, now: u64, tid: u16, reason: u8, step: &mut Step) -> u32 {
         let taken = self.table.abort(now, name(tid), reason);
+        let cost = cost(&taken);
         step.take(GATEWAY, taken);
+        cost
     }
 }
 

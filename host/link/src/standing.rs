@@ -1,4 +1,4 @@
-//! How far the request for a sampler is, in a line: `0042 asked 7 350`, `0042 value NO2 41.2 ug/m3`.
+//! How far the request for a sampler is, in a line: `0042 asked 7 350`, `0042 cost 19 value NO2 41.2 ug/m3`.
 
 use crate::outcome::{Aborted, Outcome, Why};
 use crate::payload::{Concentration, Sampler};
@@ -12,8 +12,15 @@ pub const SAMPLER: &str = "sampler";
 #[derive(Debug, Clone, PartialEq, Eq)]
 pub enum Standing {
     ToAsk,
-    Asked { tid: u16, since: u64 },
-    Known(Outcome),
+    Asked {
+        tid: u16,
+        since: u64,
+    },
+    /// Its outcome, and what that cost in octets.
+    Known {
+        outcome: Outcome,
+        cost: u32,
+    },
 }
 
 /// A sampler with its standing, as it was noted.
@@ -28,22 +35,31 @@ impl fmt::Display for Standing {
         match self {
             Standing::ToAsk => write!(f, "to-ask"),
             Standing::Asked { tid, since } => write!(f, "asked {tid} {since}"),
-            Standing::Known(Outcome::Value(value)) => write!(f, "value {value}"),
-            Standing::Known(Outcome::EmptyResult) => write!(f, "empty"),
-            Standing::Known(Outcome::Abort(Aborted::Shown(Abort::User(octet)))) => write!(f, "user {octet}"),
-            Standing::Known(Outcome::Abort(Aborted::Shown(Abort::Provider(reason)))) => write!(f, "provider {}", octet(*reason)),
-            Standing::Known(Outcome::Abort(Aborted::Unreadable(data))) => {
-                write!(f, "unreadable ")?;
-                data.iter().try_for_each(|octet| write!(f, "{octet:02X}"))
+            Standing::Known { outcome, cost } => {
+                write!(f, "cost {cost} ")?;
+                write_outcome(outcome, f)
             }
-            Standing::Known(Outcome::NoAnswer(why)) => match why {
-                Why::NoResponse => write!(f, "no-response"),
-                Why::GaveUp(waited) => write!(f, "gave-up {waited}"),
-                Why::Interrupted => write!(f, "interrupted"),
-                Why::NotAsked(refused) => write!(f, "not-asked {}", refused.number()),
-                Why::NoPort => write!(f, "no-port"),
-            },
         }
+    }
+}
+
+fn write_outcome(outcome: &Outcome, f: &mut fmt::Formatter<'_>) -> fmt::Result {
+    match outcome {
+        Outcome::Value(value) => write!(f, "value {value}"),
+        Outcome::EmptyResult => write!(f, "empty"),
+        Outcome::Abort(Aborted::Shown(Abort::User(octet))) => write!(f, "user {octet}"),
+        Outcome::Abort(Aborted::Shown(Abort::Provider(reason))) => write!(f, "provider {}", octet(*reason)),
+        Outcome::Abort(Aborted::Unreadable(data)) => {
+            write!(f, "unreadable ")?;
+            data.iter().try_for_each(|octet| write!(f, "{octet:02X}"))
+        }
+        Outcome::NoAnswer(why) => match why {
+            Why::NoResponse => write!(f, "no-response"),
+            Why::GaveUp(waited) => write!(f, "gave-up {waited}"),
+            Why::Interrupted => write!(f, "interrupted"),
+            Why::NotAsked(refused) => write!(f, "not-asked {}", refused.number()),
+            Why::NoPort => write!(f, "no-port"),
+        },
     }
 }
 
@@ -56,22 +72,35 @@ impl FromStr for Noted {
     }
 }
 
+/// The first word, and what follows it.
+fn split(text: &str) -> (&str, Option<&str>) {
+    text.split_once(' ').map_or((text, None), |(word, rest)| (word, Some(rest)))
+}
+
 fn standing_of(text: &str) -> Option<Standing> {
-    let (word, rest) = text.split_once(' ').map_or((text, None), |(word, rest)| (word, Some(rest)));
-    let outcome = match (word, rest) {
-        ("to-ask", None) => return Some(Standing::ToAsk),
+    match split(text) {
+        ("to-ask", None) => Some(Standing::ToAsk),
         ("asked", Some(rest)) => {
             let (tid, since) = rest.split_once(' ')?;
-            return Some(Standing::Asked { tid: tid.parse().ok()?, since: since.parse().ok()? });
+            Some(Standing::Asked { tid: tid.parse().ok()?, since: since.parse().ok()? })
         }
+        ("cost", Some(rest)) => {
+            let (cost, outcome) = rest.split_once(' ')?;
+            Some(Standing::Known { outcome: outcome_of(outcome)?, cost: cost.parse().ok()? })
+        }
+        _ => None,
+    }
+}
+
+fn outcome_of(text: &str) -> Option<Outcome> {
+    Some(match split(text) {
         ("value", Some(rest)) => Outcome::Value(Concentration::of(rest.as_bytes())?),
         ("empty", None) => Outcome::EmptyResult,
         ("user", Some(rest)) => Outcome::Abort(Aborted::Shown(Abort::User(rest.parse().ok()?))),
         ("provider", Some(rest)) => Outcome::Abort(Aborted::Shown(Abort::Provider(Reason::from(rest.parse::<u8>().ok()?)))),
         ("unreadable", Some(rest)) => Outcome::Abort(Aborted::Unreadable(NonEmpty::of(octets(rest)?)?)),
-        _ => Outcome::NoAnswer(why_of(word, rest)?),
-    };
-    Some(Standing::Known(outcome))
+        (word, rest) => Outcome::NoAnswer(why_of(word, rest)?),
+    })
 }
 
 fn why_of(word: &str, rest: Option<&str>) -> Option<Why> {
@@ -114,7 +143,9 @@ mod tests {
         ];
         let provider = (0..=255).map(|octet| Outcome::Abort(Aborted::Shown(Abort::Provider(Reason::from(octet)))));
         let others = [Standing::ToAsk, Standing::Asked { tid: 32_767, since: 1_000_000_000_000 }];
-        others.into_iter().chain(known.into_iter().chain(provider).map(Standing::Known)).collect()
+        let costs = [0, 16, u32::MAX].into_iter().cycle();
+        let known = known.into_iter().chain(provider).zip(costs);
+        others.into_iter().chain(known.map(|(outcome, cost)| Standing::Known { outcome, cost })).collect()
     }
 
     #[test]
@@ -127,15 +158,21 @@ mod tests {
 
     #[test]
     fn no_other_line_is_read() {
-        let lines = ["", "0042", "0042 ", "0042 nothing", "0042 to-ask x", "0042 asked 7", "0042 asked 65536 1", "0042 value 0"];
+        let lines = ["", "0042", "0042 ", "0042 nothing", "0042 to-ask x", "0042 asked 7", "0042 asked 65536 1", "0042 empty"];
         let more = [
-            "0042 empty 0",
-            "0042 user 256",
-            "0042 unreadable ",
-            "0042 unreadable 4",
-            "0042 unreadable 4G",
-            "00 42 empty",
-            "? empty",
+            "0042 cost",
+            "0042 cost 19",
+            "0042 cost empty",
+            "0042 cost 4294967296 empty",
+            "0042 cost 19 asked 7 350",
+            "0042 cost 19 value 0",
+            "0042 cost 19 empty 0",
+            "0042 cost 19 user 256",
+            "0042 cost 19 unreadable ",
+            "0042 cost 19 unreadable 4",
+            "0042 cost 19 unreadable 4G",
+            "00 42 cost 19 empty",
+            "? cost 19 empty",
         ];
         for line in lines.into_iter().chain(more) {
             assert!(line.parse::<Noted>().is_err(), "{line:?}");

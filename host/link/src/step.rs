@@ -66,13 +66,13 @@ impl Step {
         }
     }
 
-    /// Fires all records that are due, and gives back what the user is shown.
-    pub fn fire(&mut self, table: &mut Table, now: u64) -> Vec<Shown> {
+    /// Fires all records that are due, and gives back what the user is shown, each with what its transaction has cost.
+    pub fn fire(&mut self, table: &mut Table, now: u64) -> Vec<(Shown, u32)> {
         let mut shown = Vec::new();
         while let Some(Deadline { of, .. }) = self.deadline(table).filter(|due| due.at <= now) {
             let taken = table.fire(now, of);
-            let refused = taken.is_err();
-            shown.extend(self.take(of.peer, taken));
+            let (refused, cost) = (taken.is_err(), cost(&taken));
+            shown.extend(self.take(of.peer, taken).into_iter().map(|shown| (shown, cost)));
             if refused {
                 break;
             }
@@ -87,6 +87,11 @@ impl Step {
             None
         })
     }
+}
+
+/// The octets that the transaction of a call has cost, 0 where it is no initiator's.
+pub fn cost(taken: &Result<Taken, Refused>) -> u32 {
+    taken.as_ref().ok().and_then(|taken| taken.cost).map_or(0, |cost| cost.octets)
 }
 
 /// The earliest of the times that are there.

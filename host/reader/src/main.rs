@@ -21,7 +21,7 @@ use link::state::Whose;
 use link::step::Step;
 use progress::Progress;
 use rds::Side;
-use samplers::Scanned;
+use samplers::{Ended, Scanned};
 use std::net::SocketAddr;
 use std::process::ExitCode;
 
@@ -29,12 +29,14 @@ const HELP: &str = "\
 Usage: reader [SWITCHES] SAMPLERS.csv
 
 Asks a gateway over UDP for a concentration for each sampler of a file (header sampler,site), each in a class 2
-transaction, several at a time, and prints a line for each, with one of four outcomes:
+transaction, several at a time, and prints a line for each, with what it cost and one of four outcomes:
   VALUE         a measured value
   EMPTY RESULT  the laboratory answered, with no data
   ABORT         the transaction was aborted, by the provider or by a user, and why
   NO ANSWER     none came: this reader's timer or patience ended it, or Ctrl-C, or it couldn't be asked, also for want of a port
-Then comes a summary. Ctrl-C ends the waiting: what has no outcome yet is shown as NO ANSWER.
+OCTETS is what was sent for the sampler before its result or abort: its Invoke, TIDoks and their repeats, without the last Acks,
+without an Abort, and without frames and UDP. Then comes a summary, with their sum. Ctrl-C ends the waiting: what has no outcome yet
+is shown as NO ANSWER.
 
 Switches, with their defaults:
   --gateway ADDRESS    the gateway's address and port (127.0.0.1:9201, or that of the state file)
@@ -42,7 +44,7 @@ Switches, with their defaults:
                        the state file)
   --patience MS        how long a sampler may take, 1 to 86400000 (3 times (retries + 1) intervals)
   --csv FILE           write the outcomes to FILE too, whole or not at all, in place of an earlier one (no file); its columns
-                       are sampler,site,outcome,value,detail, and the value is filled for VALUE alone
+                       are sampler,site,outcome,value,detail,octets, and the value is filled for VALUE alone
   --no-user-ack        ask for no user acknowledgement: a gateway then holds on for a user who says nothing";
 
 const HELP_END: &str = "  --help               this text
@@ -193,15 +195,24 @@ impl Reader {
     /// Writes and prints the outcomes; the exit status says whether the laboratory answered each question.
     fn tell(&mut self) -> u8 {
         self.progress.clear();
-        let known = self.round().outcomes().iter();
-        let outcomes: Vec<_> = known.map(|outcome| outcome.clone().unwrap_or(Outcome::NoAnswer(Why::Interrupted))).collect();
-        let written = self.csv.take().map_or(Ok(()), |csv| csv.keep(&export::text(&self.samplers, &outcomes)));
-        say::out(&report::table(&self.samplers, &outcomes));
-        say::out(&format!("\n{}", report::summary(&outcomes)));
+        let all = self.ended();
+        let written = self.csv.take().map_or(Ok(()), |csv| csv.keep(&export::text(&all)));
+        say::out(&report::table(&all));
+        say::out(&format!("\n{}", report::summary(&all)));
         if let Err(why) = written {
             say::err(&format!("reader: {why}"));
             return WRONG_ARGUMENTS;
         }
-        u8::from(!outcomes.iter().all(Outcome::is_answered))
+        u8::from(!all.iter().all(|ended| ended.outcome.is_answered()))
+    }
+
+    fn ended(&self) -> Vec<Ended> {
+        let known = self.samplers.iter().zip(self.round().outcomes()).zip(self.round().costs());
+        let ended = |((scanned, outcome), cost): ((&Scanned, &Option<Outcome>), &u32)| Ended {
+            scanned: scanned.clone(),
+            outcome: outcome.clone().unwrap_or(Outcome::NoAnswer(Why::Interrupted)),
+            cost: *cost,
+        };
+        known.map(ended).collect()
     }
 }

@@ -1,6 +1,7 @@
 //! The samplers that were scanned, from a file: `sampler,site`.
 
 use kit::csv::{self, wrong, Row};
+use link::outcome::Outcome;
 use link::payload::Sampler;
 use std::collections::HashSet;
 
@@ -11,6 +12,21 @@ const LONGEST_SITE: usize = 24;
 pub struct Scanned {
     pub sampler: Sampler,
     pub site: String,
+}
+
+/// A sampler with the outcome of its request, and the octets that this cost.
+#[derive(Debug, Clone, PartialEq, Eq)]
+pub struct Ended {
+    pub scanned: Scanned,
+    pub outcome: Outcome,
+    pub cost: u32,
+}
+
+#[cfg(test)]
+impl Ended {
+    pub fn of(number: &str, site: &str, outcome: Outcome, cost: u32) -> Ended {
+        Ended { scanned: Scanned { sampler: Sampler::of(number).unwrap(), site: site.into() }, outcome, cost }
+    }
 }
 
 pub fn read(file: &str) -> Result<Vec<Scanned>, String> {

@@ -14,6 +14,8 @@ const FIRST: usize = 4;
 const SECOND: usize = 16;
 const FIRED_NAME: usize = 28;
 const FIRED_END: usize = 31;
+const COST: usize = 32;
+const COST_ENDED: usize = 33;
 const UNKNOWN: usize = 34;
 const UNKNOWN_END: usize = 36;
 /// The first word of the name in a deadline.
@@ -39,8 +41,8 @@ impl Answer<'_> {
             Event::Receive { .. } => self.unknown(),
             _ => self.odd(UNKNOWN..UNKNOWN_END),
         };
-        let zeros = [self.odd(FIRED_END..UNKNOWN), self.odd(UNKNOWN_END..ANSWER)].concat();
-        [self.sent(), tid, fired, self.shown(), unknown, zeros, self.past(ANSWER)].concat()
+        let zeros = [self.odd(FIRED_END..COST), self.odd(UNKNOWN_END..ANSWER)].concat();
+        [self.sent(), tid, fired, self.shown(), unknown, self.cost(), zeros, self.past(ANSWER)].concat()
     }
 
     /// The words of a deadline.
@@ -92,6 +94,16 @@ impl Answer<'_> {
         match self.word(UNKNOWN) {
             0 => self.odd(UNKNOWN..UNKNOWN_END),
             identity => format!("; unknown {identity} at {}", self.word(UNKNOWN + 1)),
+        }
+    }
+
+    /// What the initiator's record has cost, where there is one, and whether it ended.
+    fn cost(&self) -> String {
+        match [self.word(COST), self.word(COST_ENDED)] {
+            [0, 0] => String::new(),
+            [octets, 0] => format!("; cost {octets}"),
+            [octets, 1] => format!("; cost {octets}, ended"),
+            _ => self.odd(COST..COST_ENDED + 1),
         }
     }
 

@@ -3,8 +3,8 @@
 use crate::changes::{records, state_name};
 use crate::octets::text;
 use kit::layout::{
-    AEC, CACHED, CLOCK, DEADLINE, EXIT, EXIT_LENGTH, FLAGS, GEN_TID, LIMIT, MESSAGE, PEER, PEERS, RCR, STATE, TID, TIDNEW_DUE,
-    UNKNOWN, WAITING_LIMIT,
+    AEC, CACHED, CLOCK, COST, DEADLINE, EXIT, EXIT_LENGTH, FLAGS, GEN_TID, LIMIT, MESSAGE, PEER, PEERS, RCR, STATE, TID,
+    TIDNEW_DUE, UNKNOWN, WAITING_LIMIT,
 };
 
 const MARKS: [&str; 5] = [" user-ack", " HoldOn", " TIDok-sent", " hold-on-sent", " TIDnew"];
@@ -28,7 +28,7 @@ fn told_record(place: usize, record: &[u8]) -> String {
     let counters = format!("{}/{} RCR {} AEC {}", get(PEER), get(TID), get(RCR), get(AEC));
     let due = format!("due {}{}", get(DEADLINE), if_any(" limit", get(LIMIT)));
     let rest = format!("length {}{}{}{}", get(MESSAGE), marks(get(FLAGS)), if_any(" unknown", get(UNKNOWN)), exit(record));
-    format!("; record {place} {state} {counters} {due} {rest}")
+    format!("; record {place} {state} {counters} {due} {rest}{}", if_any(" cost", get(COST)))
 }
 
 /// The number with its name, and nothing where it is 0.

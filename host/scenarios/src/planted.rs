@@ -53,6 +53,21 @@ fn tells_a_place_alone(_: Event, _: u64, _: &[u8], mut lent: Lent) -> u64 {
     0
 }
 
+/// An end that is neither.
+fn tells_an_odd_end(_: Event, _: u64, _: &[u8], mut lent: Lent) -> u64 {
+    accept(&mut lent);
+    lent.answer[32] = 17;
+    lent.answer[33] = 2;
+    0
+}
+
+/// An end of a transaction that cost nothing.
+fn tells_an_end_alone(_: Event, _: u64, _: &[u8], mut lent: Lent) -> u64 {
+    accept(&mut lent);
+    lent.answer[33] = 1;
+    0
+}
+
 fn changes_two_records(_: Event, _: u64, _: &[u8], mut lent: Lent) -> u64 {
     accept(&mut lent);
     STATE.of_record(0).set(lent.table, 2);
@@ -124,6 +139,8 @@ fn words_that_should_be_zero_or_untouched_are_told() {
     let told = ": ok; word 2 is 9; unknown 6 at 0; word 31 is 1; word 39 is 1; changed word 40";
     assert_eq!(given(writes_odd_words, "rcv 0 10 5 /18"), told);
     assert_eq!(given(tells_a_place_alone, "rcv 0 10 5 /18"), ": ok; word 35 is 4");
+    assert_eq!(given(tells_an_odd_end, "rcv 0 10 5 /18"), ": ok; word 32 is 17; word 33 is 2");
+    assert_eq!(given(tells_an_end_alone, "rcv 0 10 5 /18"), ": ok; cost 0, ended");
 }
 
 #[test]

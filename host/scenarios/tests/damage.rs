@@ -5,7 +5,7 @@ mod compared;
 mod damaged;
 
 use compared::compare;
-use damaged::{fields, fresh, RECORDS};
+use damaged::{fields, fresh, with_highest_cost, RECORDS};
 use kit::layout::{self, CELL, LAST_TIME};
 use wtp::ffi::{self, Lent};
 
@@ -71,12 +71,14 @@ fn all_told(judge: Judge) -> String {
     let either = of_either_role(live.clone());
     let limited = with_waiting_limit(either.clone());
     let unknown = with_unknown_items(limited.clone());
+    let costly = with_highest_cost(unknown.clone());
     let tables = [
         ("a fresh table of two records", free),
         ("the same with both records live", live),
         ("an initiator whose Invoke carries TIDnew, and a responder", either),
         ("the same with a waiting limit of 1, the first record with the longest in force", limited),
         ("the same with the identity of an unknown item in both records", unknown),
+        ("the same with the highest cost in the first record", costly),
     ];
     tables.iter().map(|(title, table)| format!("{title}\n{}", told(judge, table))).collect()
 }

@@ -5,7 +5,7 @@ mod compared;
 mod damaged;
 
 use compared::compare;
-use damaged::{fields, fresh, RECORDS};
+use damaged::{fields, fresh, with_highest_cost, RECORDS};
 use kit::layout::{self, table_bytes, HEADER, RECORD};
 use std::collections::BTreeMap;
 use wtp::ffi::{self, SALVAGED};
@@ -116,12 +116,14 @@ fn second_not_zero(mut table: Vec<u8>) -> Vec<u8> {
 fn what_salvage_says_and_leaves_is_what_document_02_says() {
     let free = fresh();
     let either = of_either_role(free.clone());
+    let costly = with_highest_cost(either.clone());
     let one_name = of_one_name(either.clone());
     let out_of_range = first_out_of_range(one_name.clone());
     let not_zero = second_not_zero(out_of_range.clone());
     let tables = [
         ("a fresh table of two records", free),
         ("an initiator and a responder", either),
+        ("the same with the highest cost in the first record", costly),
         ("two records of one name", one_name),
         ("the same, RCR of the first over RCR_MAX", out_of_range),
         ("the same, the second free and not zero", not_zero),

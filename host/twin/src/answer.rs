@@ -8,6 +8,8 @@ use crate::words::ANSWER;
 const FIRST: usize = 4;
 const INDICATION: usize = 12;
 const FIRED: usize = 28;
+const COST: usize = 32;
+const COST_ENDED: usize = 33;
 const UNKNOWN: usize = 34;
 
 /// Where the data of an indication lies.
@@ -86,6 +88,21 @@ impl Answer {
     pub fn fired(&mut self, name: Name) {
         self.words[3] = 1;
         self.words[FIRED..FIRED + 3].copy_from_slice(&words_of(name));
+    }
+
+    /// The octets of the PDU that was sent.
+    pub fn length(&self) -> u32 {
+        self.words[0] as u32
+    }
+
+    /// What the initiator's record that the call concerns has cost.
+    pub fn cost(&mut self, octets: u32) {
+        self.words[COST] = octets.into();
+    }
+
+    /// That record ends in this call.
+    pub fn cost_ended(&mut self) {
+        self.words[COST_ENDED] = 1;
     }
 
     pub fn unknown(&mut self, first: Unknown) {

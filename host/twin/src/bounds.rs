@@ -13,3 +13,10 @@ pub const DEADLINE: u64 = TIME + INTERVAL as u64;
 pub const COUNTER: u8 = 8;
 pub const TID: u16 = 32_767;
 pub const ITEMS: usize = 16;
+/// Octets of an Invoke that has no data.
+pub const BARE_INVOKE: u32 = 4;
+
+/// The most that an initiator's record may have cost: its Invoke and each repeat as long as can be.
+pub fn cost(rcr_max: u8) -> u32 {
+    (1 + u32::from(rcr_max)) * (BARE_INVOKE + CELL as u32)
+}

@@ -39,6 +39,7 @@ fn tidve(mut at: Transaction, class: Class) -> Outcome {
     let again = at.record.tidok_sent;
     at.send_tid_test(again);
     at.record.tidok_sent = true;
+    at.count_cost();
     at.count_again(class);
     at.go_on(if again { Row::IResultWaitTidokAgain } else { Row::IResultWaitFirstTidok })
 }
@@ -86,6 +87,7 @@ fn send_again(mut at: Transaction, class: Class) -> Outcome {
         let header = sending::invoke(true, at.name(), class as u8, at.record.user_ack, at.record.tidnew);
         at.engine.send_kept(&header, at.place, at.record.message_length);
     }
+    at.count_cost();
     at.count_again(class);
     at.go_on(if tidok { Row::IResultWaitTimerTidok } else { Row::IResultWaitTimerInvoke })
 }

@@ -4,8 +4,10 @@ use crate::bounds;
 use crate::octets::{array_at, put_at};
 
 pub const OCTETS: usize = 176;
-/// Where the identity of an unknown item lies in a record.
+/// Where the identity of an unknown item, the cost and then the spare octets start in a record.
 const UNKNOWN: usize = 24;
+const COST: usize = 25;
+const SPARE: usize = 29;
 /// Where the exit information starts in a record.
 pub const EXIT: usize = 48;
 
@@ -21,6 +23,14 @@ impl Role {
         match self {
             Role::Initiator => 31,
             Role::Responder => 15,
+        }
+    }
+
+    /// The most that a record of this role may have cost.
+    fn cost_most(self, rcr_max: u8) -> u32 {
+        match self {
+            Role::Initiator => bounds::cost(rcr_max),
+            Role::Responder => 0,
         }
     }
 }
@@ -132,6 +142,8 @@ pub struct Record {
     pub limit: u32,
     /// The identity of the unknown item that plain Acks name, 0 where there is none.
     pub unknown: u8,
+    /// The octets of the Invokes and TIDoks that an initiator's record has sent; 0 in a responder's.
+    pub cost: u32,
 }
 
 impl Record {
@@ -152,6 +164,7 @@ impl Record {
             message_length: 0,
             limit: 0,
             unknown: 0,
+            cost: 0,
         }
     }
 
@@ -179,6 +192,7 @@ impl Record {
             message_length: u32::from_le_bytes(array_at(octets, 16)),
             limit: u32::from_le_bytes(array_at(octets, 20)),
             unknown: octets[UNKNOWN],
+            cost: u32::from_le_bytes(array_at(octets, COST)),
         })
     }
 
@@ -199,6 +213,7 @@ impl Record {
         put_at(octets, 16, &self.message_length.to_le_bytes());
         put_at(octets, 20, &self.limit.to_le_bytes());
         octets[UNKNOWN] = self.unknown;
+        put_at(octets, COST, &self.cost.to_le_bytes());
     }
 
     /// Whether a record decoded from these octets has all fields in range.
@@ -212,6 +227,7 @@ impl Record {
             && self.message_length <= bounds::CELL as u32
             && self.limit <= bounds::INTERVAL
             && matches!(self.unknown, 0 | 6..=15)
-            && octets[UNKNOWN + 1..EXIT] == [0; EXIT - UNKNOWN - 1]
+            && self.cost <= self.state.role().cost_most(rcr_max)
+            && octets[SPARE..EXIT] == [0; EXIT - SPARE]
     }
 }

@@ -57,8 +57,10 @@ fn wanted_class(class: u64) -> Option<Option<Class>> {
 fn open_record(engine: &mut Engine, place: usize, class: Class, mut record: Record, data: &[u8]) {
     record.deadline = Some(engine.now + engine.table.interval_r(class, 0));
     record.message_length = data.len() as u32;
+    record.cost = bounds::BARE_INVOKE + data.len() as u32;
     engine.table.put(place, &record);
     engine.keep(place, data);
+    engine.answer.cost(record.cost);
 }
 
 fn reached(class: Option<Class>, tidnew: bool, wraps: bool) -> Row {

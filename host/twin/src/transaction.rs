@@ -3,9 +3,9 @@
 use crate::answer::Indication;
 use crate::engine::Engine;
 use crate::event::Event;
-use crate::record::{Class, Name, Record, State};
+use crate::record::{Class, Name, Record, Role, State};
 use crate::sending::{self, NORESPONSE, PROTOERR, PROVIDER, USER};
-use crate::{initiator, responder, Row};
+use crate::{bounds, initiator, responder, Row};
 
 /// The row that was reached; an error is a primitive that the state doesn't allow, and then nothing has changed.
 pub type Outcome = Result<Row, Row>;
@@ -19,7 +19,10 @@ pub struct Transaction<'e, 'a> {
 impl Transaction<'_, '_> {
     pub fn meet(self, event: Event) -> Outcome {
         match self.record.state {
-            State::Initiator(state) => initiator::meet(self, state, event),
+            State::Initiator(state) => {
+                self.engine.answer.cost(self.record.cost);
+                initiator::meet(self, state, event)
+            }
             State::Responder(state) => responder::meet(self, state, event),
         }
     }
@@ -35,6 +38,9 @@ impl Transaction<'_, '_> {
     }
 
     pub fn end(self, row: Row) -> Outcome {
+        if self.record.state.role() == Role::Initiator {
+            self.engine.answer.cost_ended();
+        }
         self.engine.table.free(self.place);
         Ok(row)
     }
@@ -81,6 +87,13 @@ impl Transaction<'_, '_> {
     pub fn count_again(&mut self, class: Class) {
         self.record.rcr += 1;
         self.start_timer_r(class);
+    }
+
+    /// Adds the PDU that was sent to what the record has cost, as far as that may go.
+    pub fn count_cost(&mut self) {
+        let most = bounds::cost(self.engine.table.rcr_max());
+        self.record.cost = most.min(self.record.cost + self.engine.answer.length());
+        self.engine.answer.cost(self.record.cost);
     }
 
     /// TIDve of a responder, TIDok of an initiator.

@@ -7,6 +7,7 @@
 #![deny(unsafe_code)]
 
 pub mod codec;
+mod cost;
 mod deadline;
 #[allow(unsafe_code)]
 pub mod ffi;
@@ -18,6 +19,7 @@ mod table;
 mod taken;
 mod unknown;
 
+pub use cost::Cost;
 pub use deadline::Deadline;
 pub use refused::Refused;
 pub use salvaged::{Damage, Salvaged};

@@ -1,5 +1,6 @@
 //! The words of an answer, taken apart. None where they aren't what the interface describes.
 
+use crate::cost::{cost, Cost};
 use crate::ffi;
 use crate::shown::{Abort, Name, NonEmpty, Reason, Role, Shown};
 use crate::unknown::{unknown, Unknown};
@@ -17,6 +18,8 @@ pub struct Taken {
     pub fired: Option<Name>,
     /// The first unknown item of the PDU that was received, whatever else it did.
     pub unknown: Option<Unknown>,
+    /// Of the initiator's transaction of class 1 or 2 that the call opened, named or fired; none where there is no such one.
+    pub cost: Option<Cost>,
 }
 
 /// The octets that an answer's places point into.
@@ -31,6 +34,8 @@ const SECOND: usize = 16;
 const WORDS: usize = 12;
 const FIRED_NAME: usize = 28;
 const FIRED_END: usize = 31;
+const COST: usize = 32;
+const COST_END: usize = 34;
 const UNKNOWN: usize = 34;
 const UNKNOWN_END: usize = 36;
 
@@ -44,6 +49,7 @@ pub(crate) fn take(answer: &[u64; ffi::ANSWER], places: &Places, requested: bool
         tid: if requested { Some(u16::try_from(tid).ok()?) } else { None },
         fired: if flag(fired)? { Some(fired_name(answer)?) } else { None },
         unknown: unknown_item(answer)?,
+        cost: told_cost(answer)?,
     })
 }
 
@@ -112,6 +118,13 @@ fn unknown_item(answer: &[u64; ffi::ANSWER]) -> Option<Option<Unknown>> {
     }
 }
 
+fn told_cost(answer: &[u64; ffi::ANSWER]) -> Option<Option<Cost>> {
+    match answer.get(COST..COST_END) {
+        Some([octets, ended]) => cost(*octets, *ended),
+        _ => None,
+    }
+}
+
 pub(crate) fn name(role: u64, peer: u64, tid: u64) -> Option<Name> {
     let role = if flag(role)? { Role::Responder } else { Role::Initiator };
     Some(Name { role, peer: u16::try_from(peer).ok()?, tid: u16::try_from(tid).ok()? })
@@ -172,6 +185,18 @@ mod tests {
         for (identity, place) in [(0, 4), (5, 4), (16, 4), (6, 65_536)] {
             assert_eq!(taken(&[(34, identity), (35, place)]), None, "identity {identity} at {place}");
         }
+        for (octets, ended) in [(9_253, 0), (9_253, 1), (1 << 32, 1), (u64::MAX, 0), (0, 2), (17, 256)] {
+            assert_eq!(taken(&[(32, octets), (33, ended)]), None, "cost {octets}, ended {ended}");
+        }
+    }
+
+    #[test]
+    fn a_cost_is_told_with_whether_its_transaction_ended() {
+        let cost = |octets, ended| taken(&[(32, octets), (33, ended)]).map(|taken| taken.cost);
+        assert_eq!(cost(0, 0), Some(None));
+        assert_eq!(cost(17, 0), Some(Some(Cost { octets: 17, ended: false })));
+        assert_eq!(cost(9_252, 1), Some(Some(Cost { octets: 9_252, ended: true })));
+        assert_eq!(cost(0, 1), Some(Some(Cost { octets: 0, ended: true })), "a record that was kept from before it was counted");
     }
 
     #[test]

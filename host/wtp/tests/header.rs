@@ -58,6 +58,7 @@ fn the_words_of_an_answer_are_where_the_wrapper_reads_them() {
     let first = ["WTP_SENT", "WTP_INDICATIONS", "WTP_GIVEN_TID", "WTP_FIRED", "WTP_FIRST"];
     assert!(first.iter().map(|name| value(name)).eq(0..5));
     assert_eq!(["WTP_SECOND", "WTP_FIRED_ROLE", "WTP_FIRED_PEER", "WTP_FIRED_TID"].map(value), [16, 28, 29, 30]);
+    assert_eq!(["WTP_COST", "WTP_COST_ENDED"].map(value), [32, 33]);
     assert_eq!(["WTP_TOLD_UNKNOWN_IDENTITY", "WTP_TOLD_UNKNOWN_PLACE"].map(value), [34, 35]);
 }
 

@@ -3,7 +3,7 @@
 mod common;
 
 use common::{initiator, responder, table, PEER, SETTINGS};
-use wtp::{Abort, Deadline, NonEmpty, Reason, Settings, Shown, Table, Taken, Unknown};
+use wtp::{Abort, Cost, Deadline, NonEmpty, Reason, Settings, Shown, Table, Taken, Unknown};
 
 /// A reader, which requests, a gateway, which answers, and their common clock.
 struct Link {
@@ -72,6 +72,10 @@ fn invoke(tid: u16, class: u8, data: &[u8]) -> Shown {
     Shown::Invoke { of: responder(tid), class, user_ack: false, data: data.to_vec() }
 }
 
+fn cost(octets: u32, ended: bool) -> Option<Cost> {
+    Some(Cost { octets, ended })
+}
+
 fn confirmed(tid: u16) -> Shown {
     Shown::Confirmation { of: initiator(tid), exit_information: None }
 }
@@ -115,6 +119,32 @@ fn an_unknown_item_is_told_and_named_in_the_last_ack() {
     let taken = link.reader.answer(link.now, initiator(tid), b"ok").unwrap();
     let [high, low] = tid.to_be_bytes();
     assert_eq!((taken.sent, taken.unknown), (Some(vec![0x98, high, low, 0x81, 0x19, 0x0A, b'o', b'k']), None));
+}
+
+#[test]
+fn a_request_costs_its_invokes_and_tidoks_up_to_its_result() {
+    let mut reader = table(1);
+    let costs = [
+        reader.request(0, PEER, 2, false, b"sampler 21").unwrap().cost,
+        reader.timer(5_000).unwrap().cost,
+        reader.receive(5_010, PEER, &[0x1C, 0x80, 5]).unwrap().cost,
+        reader.receive(5_020, PEER, &[0x16, 0x80, 5, b'1']).unwrap().cost,
+        reader.answer(5_030, initiator(5), b"thanks").unwrap().cost,
+        reader.receive(5_040, PEER, &[0x17, 0x80, 5, b'1']).unwrap().cost,
+        reader.receive(5_050, PEER, &[0x17, 0x80, 6]).unwrap().cost,
+        reader.timer(35_030).unwrap().cost,
+    ];
+    let [sent, repeated, after_tidok] = [14, 28, 31].map(|octets| cost(octets, false));
+    assert_eq!(costs, [sent, repeated, after_tidok, after_tidok, after_tidok, after_tidok, None, cost(31, true)]);
+}
+
+#[test]
+fn class_0_and_a_responder_cost_nothing() {
+    let mut link = Link::new();
+    assert_eq!(link.reader.request(0, PEER, 0, false, b"none").unwrap().cost, None);
+    assert_eq!(link.gateway.receive(0, PEER, &[0x0E, 0, 9, 2]).unwrap().cost, None);
+    assert_eq!(link.gateway.receive(0, PEER, &[0x1C, 0, 9]).unwrap().cost, None);
+    assert_eq!(link.gateway.result(0, responder(9), b"1").unwrap().cost, None);
 }
 
 #[test]
@@ -179,16 +209,17 @@ fn the_timer_resends_and_then_aborts() {
     let mut reader = table(1);
     let first = reader.request(0, PEER, 2, false, b"").unwrap();
     assert_eq!(first.sent.as_deref(), Some(&[0x0E, 0x00, 0x05, 0x22][..]));
-    let nothing = Taken { sent: None, shown: vec![], tid: None, fired: None, unknown: None };
+    assert_eq!(first.cost, cost(4, false));
+    let nothing = Taken { sent: None, shown: vec![], tid: None, fired: None, unknown: None, cost: None };
     assert_eq!(reader.timer(4_999).unwrap(), nothing);
-    for now in [5_000, 10_000] {
+    for (now, octets) in [(5_000, 8), (10_000, 12)] {
         let sent = Some(vec![0x0F, 0x00, 0x05, 0x22]);
-        let again = Taken { sent, fired: Some(initiator(5)), ..nothing.clone() };
+        let again = Taken { sent, fired: Some(initiator(5)), cost: cost(octets, false), ..nothing.clone() };
         assert_eq!(reader.timer(now).unwrap(), again);
         assert_eq!(reader.timer(now).unwrap(), nothing);
     }
     let abort = Shown::Abort { of: initiator(5), by: Abort::Provider(Reason::NoResponse) };
-    let given_up = Taken { shown: vec![abort], fired: Some(initiator(5)), ..nothing };
+    let given_up = Taken { shown: vec![abort], fired: Some(initiator(5)), cost: cost(12, true), ..nothing };
     assert_eq!(reader.timer(15_000).unwrap(), given_up);
 }
 
@@ -223,14 +254,15 @@ fn a_wait_without_a_timer_ends_with_the_waiting_limit() {
     let mut gateway = Table::fresh(1, &limited, 5).unwrap();
     gateway.receive(0, PEER, &[0x0E, 0x00, 0x05, 0x02]).unwrap();
     assert_eq!(gateway.deadline(), Ok(Some(Deadline { at: 60_000, of: responder(5) })), "it is verified");
-    let nothing = Taken { sent: None, shown: vec![], tid: None, fired: Some(responder(5)), unknown: None };
+    let nothing = Taken { sent: None, shown: vec![], tid: None, fired: Some(responder(5)), unknown: None, cost: None };
     assert_eq!(gateway.fire(60_000, responder(5)), Ok(nothing.clone()));
     assert_eq!(gateway.deadline(), Ok(None));
     let mut reader = Table::fresh(1, &limited, 5).unwrap();
     reader.request(0, PEER, 2, false, b"").unwrap();
     assert_eq!(reader.receive(10, PEER, &[0x18, 0x80, 0x05]).unwrap().shown, [confirmed(5)], "it is held on");
     let abort = Shown::Abort { of: initiator(5), by: Abort::Provider(Reason::NoResponse) };
-    assert_eq!(reader.timer(60_010), Ok(Taken { shown: vec![abort], fired: Some(initiator(5)), ..nothing }));
+    let ended = Taken { shown: vec![abort], fired: Some(initiator(5)), cost: cost(4, true), ..nothing };
+    assert_eq!(reader.timer(60_010), Ok(ended));
 }
 
 #[test]

@@ -88,7 +88,9 @@ fn whatever_is_cut_off_goes_on_with_its_transactions() {
         wakes += 1;
         if wakes % 3 == 0 {
             reader.keep(&world.round, Whose::Reader);
-            world.round = Round::resumed(&reader.resumed(Whose::Reader), samplers(entries.len()), MANNER).unwrap();
+            let resumed = Round::resumed(&reader.resumed(Whose::Reader), samplers(entries.len()), MANNER).unwrap();
+            assert_eq!(resumed.costs(), world.round.costs());
+            world.round = resumed;
         }
         if wakes % 2 == 0 {
             asked += world.desk.tally().asked;
@@ -101,6 +103,7 @@ fn whatever_is_cut_off_goes_on_with_its_transactions() {
     use Kind::{Abort, EmptyResult, Value};
     assert_eq!(kinds, [Value, EmptyResult, Value, Abort, Value, Value, Abort, Value, Value]);
     assert_eq!(asked + world.desk.tally().asked, 9, "each Invoke is shown once, whoever was cut off");
+    assert_eq!(world.round.costs().iter().sum::<u32>(), world.sent, "a request that goes on has its cost in its record");
 }
 
 #[test]
@@ -113,7 +116,8 @@ fn a_round_that_was_told_leaves_its_table_for_the_next() {
     let other = Round::resumed(&resumed, samplers(2), MANNER).err().unwrap();
     assert!(other.ends_with("state: is of a round that isn't over, with other samplers"), "{other}");
     let same = Round::resumed(&resumed, samplers(1), MANNER).unwrap();
-    assert_eq!(same.outcomes(), world.round.outcomes());
+    assert_eq!((same.outcomes(), same.costs()), (world.round.outcomes(), world.round.costs()));
+    assert_eq!(same.costs(), [20]);
     world.round.told();
     place.keep(&world.round, Whose::Reader);
     let mut next = Round::resumed(&place.resumed(Whose::Reader), samplers(2), MANNER).unwrap();
@@ -146,6 +150,8 @@ fn a_sampler_whose_record_was_damaged_is_asked_for_again() {
     let again = round.tick(10).send;
     assert_eq!(again, [Packet { peer: 0, octets: b"\x0E\x7F\xFA\x12sampler 00000".to_vec() }]);
     assert_eq!(round.waiting(), 2);
+    round.interrupt(20);
+    assert_eq!(round.costs(), [17, 17], "what was sent under the record that was damaged is lost with it");
 }
 
 #[test]

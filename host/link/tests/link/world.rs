@@ -25,6 +25,8 @@ pub struct World {
     pub round: Round,
     pub desk: Desk,
     pub now: u64,
+    /// Octets of all Invokes and TIDoks that the reader has sent.
+    pub sent: u32,
     to_desk: Line,
     to_round: Line,
 }
@@ -74,6 +76,7 @@ impl World {
             round: Round::new(table(records), (0..entries.len()).map(sampler).collect(), manner),
             desk: Desk::new(gateway_table(records), book),
             now: 0,
+            sent: 0,
             to_desk: Line::new(to_desk, 1),
             to_round: Line::new(to_round, 2),
         };
@@ -131,7 +134,12 @@ impl World {
     }
 
     fn round_sends(&mut self, step: Step) {
-        step.send.into_iter().for_each(|packet| self.to_desk.send(self.now, packet));
+        for packet in step.send {
+            if matches!(packet.octets[0], 0x0E | 0x0F | 0x1C | 0x1D) {
+                self.sent += u32::try_from(packet.octets.len()).unwrap();
+            }
+            self.to_desk.send(self.now, packet);
+        }
     }
 
     fn desk_sends(&mut self, step: Step) {

@@ -1,6 +1,7 @@
 //! One end of a link for the tests: its buffers, and the calls with what holds after every one of them.
 
 mod bench_cases;
+mod cost;
 mod datagrams;
 mod reader_and_writer;
 mod refusals;
@@ -178,6 +179,11 @@ impl End {
     /// Identity and place of the first unknown item that the last accepted call told.
     pub fn unknown(&self) -> [u64; 2] {
         [self.answer[34], self.answer[35]]
+    }
+
+    /// The cost that the last accepted call told, and whether its transaction ended.
+    pub fn cost(&self) -> [u64; 2] {
+        [self.answer[32], self.answer[33]]
     }
 
     /// The indications of the last accepted call.

@@ -74,6 +74,23 @@ fn a_counter_over_a_lowered_maximum_is_reason_1_and_not_number_15() {
 }
 
 #[test]
+fn a_cost_out_of_range_is_reason_1_and_one_in_range_stays_and_is_told_on() {
+    let with_cost = |place: usize, cost: u32| {
+        let mut end = six_places();
+        end.record(place)[25..29].copy_from_slice(&cost.to_le_bytes());
+        let list = end.salvage();
+        (end, list)
+    };
+    assert_eq!(with_cost(0, 3_085).1, Ok(vec![[0, 1]]));
+    assert_eq!(with_cost(2, 1).1, Ok(vec![[2, 1]]), "a responder's is 0");
+    let (mut end, list) = with_cost(0, 3_000);
+    assert_eq!(list, Ok(vec![]));
+    assert_eq!((end.timer(160).number, end.cost()), (0, [3_005, 0]));
+    end.table[10] = 1;
+    assert_eq!(end.salvage(), Ok(vec![[0, 1]]), "by the table's own RCR_MAX");
+}
+
+#[test]
 fn whatever_a_place_holds_its_first_reason_is_told() {
     for place in 0..6 {
         for octets in [[0xFF; 176], [12; 176], [1; 176]] {

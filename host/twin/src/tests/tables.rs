@@ -145,7 +145,7 @@ fn a_header_field_out_of_range_is_refused_with_1() {
 
 #[test]
 fn a_record_field_out_of_range_is_refused_with_1() {
-    let bad: [(usize, &[u8]); 18] = [
+    let bad: [(usize, &[u8]); 20] = [
         (0, &[12]),
         (0, &[0]),
         (2, &32_768_u16.to_le_bytes()),
@@ -161,7 +161,9 @@ fn a_record_field_out_of_range_is_refused_with_1() {
         (24, &[5]),
         (24, &[16]),
         (24, &[255]),
-        (25, &[6]),
+        (25, &3_085_u32.to_le_bytes()),
+        (25, &[0xFF; 4]),
+        (29, &[1]),
         (40, &[6]),
         (47, &[1]),
     ];
@@ -182,6 +184,22 @@ fn the_flag_tidnew_is_in_range_for_an_initiator_alone() {
 }
 
 #[test]
+fn a_cost_is_in_range_up_to_the_tables_own_bound_and_for_an_initiator_alone() {
+    for (rcr_max, most) in [(0, 1_028_u32), (1, 2_056), (8, 9_252)] {
+        for state in 1..=11 {
+            let number = |cost: u32| {
+                let mut end = End::with(1, 0, &settings(rcr_max, 1));
+                end.record(0).copy_from_slice(&live(state));
+                end.record(0)[25..29].copy_from_slice(&cost.to_le_bytes());
+                end.timer(0).number
+            };
+            let expected = if state <= 4 { [0, 0, 0, 1] } else { [0, 1, 1, 1] };
+            assert_eq!([0, 1, most, most + 1].map(number), expected, "state {state}, RCR_MAX {rcr_max}");
+        }
+    }
+}
+
+#[test]
 fn the_largest_fields_are_well_formed() {
     for state in 1..=11 {
         let mut end = end_with(&[live(state)]);
@@ -191,6 +209,7 @@ fn the_largest_fields_are_well_formed() {
         record[16..20].copy_from_slice(&1024_u32.to_le_bytes());
         record[20..24].copy_from_slice(&86_400_000_u32.to_le_bytes());
         record[24] = 15;
+        record[25..29].copy_from_slice(&if state <= 4 { 3_084_u32 } else { 0 }.to_le_bytes());
         end.cache(255, 32_767);
         assert_eq!(end.timer(1_000_000_000_000).row, Row::TimerNoneDue, "state {state}");
     }
@@ -198,7 +217,7 @@ fn the_largest_fields_are_well_formed() {
 
 #[test]
 fn a_free_record_must_be_zero_to_its_last_octet() {
-    for octet in [1, 24, 48, 175] {
+    for octet in [1, 24, 25, 28, 48, 175] {
         let mut end = End::new(1, 0);
         end.record(0)[octet] = 1;
         assert_eq!(end.timer(0).number, 1, "octet {octet}");
