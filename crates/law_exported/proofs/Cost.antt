@@ -62,13 +62,14 @@ module _ (words : List ℕ) (room : answerSize ≤ length words) (cost : Cost) (
       ∙ getD-same (costWords cost) words 32 k (omega (arith, room)) h
 
 module _ (x : Exported) (k : Keeps x) (accepted : x .seen .result ≡ 0) where
-  gone : (ltb (length (x .words)) answerSize ≡ false) × ((step : Step) × (planFor (x .call) (x .lent) ≡ Go step))
+  pub gone : (ltb (length (x .words)) answerSize ≡ false) × ((step : Step) × (planFor (x .call) (x .lent) ≡ Go step))
   gone = gives-0 (x .call) (x .lent) (x .words) (sym (ap (λ (c : Called). c .result) (k .keeps)) ∙ accepted)
 
   abbrev cost : Cost
   cost = planCost (x .lent .table) (Go (gone .1 .0))
 
-  seen-is : x .seen .answer ≡ whole (x .words) (ltb-false _ _ (gone .0)) cost (length (sentThen (x .lent) (gone .1 .0))) (gone .1 .0 .told) (gone .1 .0 .first) (gone .1 .0 .second) (moreWords (itemTold (x .call) (x .lent)))
+  -- all words that C sees of an accepted call
+  pub seen-is : x .seen .answer ≡ whole (x .words) (ltb-false _ _ (gone .0)) cost (length (sentThen (x .lent) (gone .1 .0))) (gone .1 .0 .told) (gone .1 .0 .first) (gone .1 .0 .second) (moreWords (itemTold (x .call) (x .lent)))
   unfolding promised outcome carriedOut answerNumber answerAfter costed toldAfter
   seen-is = seen-words x k (gone .0) .1 ∙ rw (gone .1 .1) refl
 

@@ -5,3 +5,4 @@ pub mod DataSaid
 pub mod InTwo
 pub mod Waiting
 pub mod Cost
+pub mod Item
