@@ -36,7 +36,7 @@ use Rattle.wtp.specs.Engine.{Called, handed, costed, handedBy, told, orSmall, i
 use Rattle.law_exported.specs.Session.{Exported, Keeps, entryFor, historyWith, Calls, Session, SalvagedSession}
 
 -- a refused fresh-table call leaves the table
-fresh-refused : (a : Fresh) (t settings : List ℕ) (first : ℕ) → (a ≡ Fresh.Made → ⊥) → tableAfterFresh a t settings first ≡ t
+pub fresh-refused : (a : Fresh) (t settings : List ℕ) (first : ℕ) → (a ≡ Fresh.Made → ⊥) → tableAfterFresh a t settings first ≡ t
 unfolding tableAfterFresh
 fresh-refused Fresh.Made t settings first unmade = absurd (unmade refl)
 fresh-refused (Fresh.Refused r) t settings first unmade = refl

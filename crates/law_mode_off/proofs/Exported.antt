@@ -12,7 +12,6 @@ use Rattle.base_lists.specs.Seq.{pick}
 use Rattle.table_layout.specs.Table.{settingsOf}
 use Rattle.table_layout.specs.declared.Settings.{Settings}
 use Rattle.table_fresh.specs.Fresh.{freshAnswer, tableAfterFresh}
-use Rattle.table_fresh.specs.declared.Fresh.{Fresh}
 use Rattle.table_fresh.specs.declared.Fresh.the-variants as Fresh
 use Rattle.table_well_formed.specs.WellFormed.{WellFormed}
 use Rattle.table_salvage.specs.Salvage.{tableSalvaged}
@@ -20,20 +19,14 @@ use Rattle.law_fresh_formed.proofs.Formed.{fresh-ok}
 use Rattle.step_plan.specs.declared.Plan.{Plan}
 use Rattle.call_plans.specs.Calls.{planFor, promised}
 use Rattle.law_history.specs.Trace.{Entry, Throughout}
-use Rattle.wtp.specs.Engine.{Called, handed, costed, handedBy, told, orSmall, itemTold}
+use Rattle.wtp.specs.Engine.{handed, costed, handedBy, orSmall, itemTold}
 use Rattle.law_exported.specs.Session.{Exported, Keeps, entryFor, historyWith, Calls, Session}
-use Rattle.law_exported.proofs.Exported.{salvage-leaves}
+use Rattle.law_exported.proofs.Exported.{fresh-refused, few, enough, salvage-leaves}
 use Rattle.law_mode_off.specs.BaseCalls.{basePromised, baseCalledBy}
 use Rattle.law_mode_off.specs.ModeOff.{ModeOff, StaysOff}
 use Rattle.law_mode_off.proofs.Calls.{mode-off-plan}
 use Rattle.law_mode_off.proofs.Carried.{mode-off-call}
 use Rattle.law_mode_off.proofs.Kept.{call-settings, call-stays-off, fresh-off}
-
--- a refused fresh-table call leaves the table
-fresh-refused : (a : Fresh) (t settings : List ℕ) (first : ℕ) → (a ≡ Fresh.Made → ⊥) → tableAfterFresh a t settings first ≡ t
-unfolding tableAfterFresh
-fresh-refused Fresh.Made t settings first unmade = absurd (unmade refl)
-fresh-refused (Fresh.Refused r) t settings first unmade = refl
 
 module _ (x : Exported) (k : Keeps x) where
   -- MODE OFF, to C: the number, the words of the answer, and every lent octet
@@ -47,14 +40,6 @@ module _ (x : Exported) (k : Keeps x) where
       more : List ℕ
       more = moreWords (itemTold (x .call) (x .lent))
 
-  few : ltb (length (x .words)) answerSize ≡ true → x .seen .table ≡ x .lent .table
-  unfolding orSmall
-  few e = ap (λ (c : Called). c .table) (k .keeps) ∙ rw e refl
-
-  enough : ltb (length (x .words)) answerSize ≡ false → x .seen .table ≡ promised (x .call) (x .lent) .table
-  unfolding orSmall handedBy handed told promised
-  enough e = ap (λ (c : Called). c .table) (k .keeps) ∙ rw e refl
-
   -- a call of a session whose table has it off afterwards had it off before
   off-call : {t : List ℕ} {h : List Entry} → (settingsOf t .limit ≡ 0 → StaysOff t h) → x .lent .table ≡ t → settingsOf (x .seen .table) .limit ≡ 0 → StaysOff (x .seen .table) (historyWith x h)
   unfolding Throughout
@@ -62,14 +47,14 @@ module _ (x : Exported) (k : Keeps x) where
     where
       go : (b : Bool) → ltb (length (x .words)) answerSize ≡ b → StaysOff (x .seen .table) (pick b h (entryFor x ∷ h))
       go true e =
-          let same : x .seen .table ≡ t = few e ∙ table in
+          let same : x .seen .table ≡ t = few x k e .0 ∙ table in
           subst (λ (z : List ℕ). StaysOff z h) (sym same) (so (subst (λ (z : List ℕ). settingsOf z .limit ≡ 0) same off))
       go false e =
-          let was : settingsOf (x .lent .table) .limit ≡ 0 = sym (ap (λ (s : Settings). s .limit) (call-settings (x .call) (x .lent) (k .lends) .settings)) ∙ subst (λ (z : List ℕ). settingsOf z .limit ≡ 0) (enough e) off in
+          let was : settingsOf (x .lent .table) .limit ≡ 0 = sym (ap (λ (s : Settings). s .limit) (call-settings (x .call) (x .lent) (k .lends) .settings)) ∙ subst (λ (z : List ℕ). settingsOf z .limit ≡ 0) (enough x k e .0) off in
           let s : StaysOff t h = so (subst (λ (z : List ℕ). settingsOf z .limit ≡ 0) table was) in
           let m : ModeOff (x .lent .table) = subst ModeOff (sym table) (s .off) in
           record {
-            off = subst ModeOff (sym (enough e)) (call-stays-off (entryFor x) (record { lends = k .lends; keeps = refl }) m);
+            off = subst ModeOff (sym (enough x k e .0)) (call-stays-off (entryFor x) (record { lends = k .lends; keeps = refl }) m);
             as-before = (mode-off-call (x .call) (x .lent) m, s .as-before);
           }
 

@@ -4,7 +4,7 @@ use native.Mathlib.Omega.{arith}
 use native.Mathlib.Nat.{add-zero}
 use mathlib.Core.Path.{_≡_, refl, sym, ap, _∙_}
 use mathlib.Core.Bool.{true, false}
-use mathlib.Core.List.{List, [], _∷_, _++_}
+use mathlib.Core.List.{List, _++_}
 use mathlib.Core.Logic.{_⊎_, inl, inr}
 use lib.ListN.{length, getD, replicate, set, length-set}
 use lib.Seq.{getD-set-same, getD-set-other, ext-getD}
@@ -12,7 +12,7 @@ use lib.Dec.{eqb}
 use borrow.Author.Tests.{eqb-true, eqb-false}
 use Rattle.base_layout.specs.Layout.{recordSize, limitOffset, unknownOffset, base}
 use Rattle.base_lists.specs.Seq.{put}
-use Rattle.base_lists.proofs.StoresAndParts.{length-put, told}
+use Rattle.base_lists.proofs.StoresAndParts.{length-put, put-append, told}
 use Rattle.base_octets.specs.Octets.{enc}
 use Rattle.base_octets.proofs.StoredAndRead.{getD-after}
 use Rattle.table_record.specs.Record.{octetsOf}
@@ -21,14 +21,6 @@ use Rattle.table_layout.specs.Table.{putRecord}
 use Rattle.table_ranges.specs.Ranges.{Zeros}
 use Rattle.law_mode_off.specs.BaseFormed.{baseOctets, laterOctets, basePut}
 use Rattle.law_mode_off.proofs.Formed.{same-octet}
-
--- two stores, one after the other
-put-append : (w z t : List ℕ) (p : ℕ) → put t p (w ++ z) ≡ put (put t p w) (p + length w) z
-unfolding put
-put-append [] z t p = rw add-zero refl
-put-append (a ∷ w) z t p =
-    let e : suc p + length w ≡ p + suc (length w) = omega arith in
-    put-append w z (set t p a) (suc p) ∙ ap (λ (n : ℕ). put (put (set t p a) (suc p) w) n z) e
 
 -- zeros stored where zeros are
 set-zero : (u : List ℕ) (p : ℕ) → p < length u → getD u p 0 ≡ 0 → set u p 0 ≡ u

@@ -21,7 +21,7 @@ use Rattle.row_turns.specs.Turns.{lenAfter, costOf, sentAfter, newRecord, moved
 use Rattle.row_turns.specs.declared.Given.{Given}
 use Rattle.law_rows_done.specs.LiveRows.{documentAct}
 use Rattle.law_rows_done.specs.OpeningRows.{documentOpeningAct}
-use Rattle.law_rows_done.specs.Leaves.{nextOf, openingNext, costBy, openingCost, least, sentBy}
+use Rattle.law_rows_done.specs.Leaves.{nextOf, openingNext, rowCost, openingCost, least, sentBy}
 use Rattle.law_rows_done.proofs.Columns.{column, at-each-row, at-each-opening}
 use Rattle.law_rows_done.proofs.SameActs.{acts-are-listed, opening-acts-are-listed}
 
@@ -47,25 +47,25 @@ module _ (g : Given) (s : Settings) (rows : List (List ℕ)) (r : Record) where
   after-sent a Ends = refl
   after-sent a (Goes state) = stops (r .sent + costOf (a .send) (len a)) _
 
-  row-cost : (row : Row) → let a : Act = actOf row (r .«tidok_sent») (g .kind) (g .reason) in costOf (a .send) (len a) ≡ costBy row (r .«tidok_sent») (r .len)
+  row-cost : (row : Row) → let a : Act = actOf row (r .«tidok_sent») (g .kind) (g .reason) in costOf (a .send) (len a) ≡ rowCost row (r .«tidok_sent») (r .len)
   unfolding tab actOf actWith taken acked stored shown
-  row-cost row = at-each-row (cost (r .«tidok_sent»)) (λ x. costBy x (r .«tidok_sent») (r .len)) (computed (r .«tidok_sent»)) row
+  row-cost row = at-each-row (cost (r .«tidok_sent»)) (λ x. rowCost x (r .«tidok_sent») (r .len)) (computed (r .«tidok_sent»)) row
     where
       cost : Bool → Row → ℕ
       cost t x = costOf (actOf x t (g .kind) (g .reason) .send) (len (actOf x t (g .kind) (g .reason)))
 
-      computed : (t : Bool) → column (λ k. cost t (rowNumbered k)) 36 ≡ column (λ k. costBy (rowNumbered k) t (r .len)) 36
+      computed : (t : Bool) → column (λ k. cost t (rowNumbered k)) 36 ≡ column (λ k. rowCost (rowNumbered k) t (r .len)) 36
       computed true = refl
       computed false = refl
 
   -- a live record under its row
-  pub row-sent : (row : Row) → rowTurn row r g s rows .after .sent ≡ sentBy (nextOf row) (r .sent) (costBy row (r .«tidok_sent») (r .len)) s
+  pub row-sent : (row : Row) → rowTurn row r g s rows .after .sent ≡ sentBy (nextOf row) (r .sent) (rowCost row (r .«tidok_sent») (r .len)) s
   unfolding rowTurn turnOf documentAct
   row-sent row =
       let a : Act = actOf row (r .«tidok_sent») (g .kind) (g .reason) in
       after-sent a (a .next)
       ∙ ap (λ (n : ℕ). sentBy (a .next) (r .sent) n s) (row-cost row)
-      ∙ ap (λ (x : Act). sentBy (x .next) (r .sent) (costBy row (r .«tidok_sent») (r .len)) s) (acts-are-listed row (r .«tidok_sent») (g .kind) (g .reason))
+      ∙ ap (λ (x : Act). sentBy (x .next) (r .sent) (rowCost row (r .«tidok_sent») (r .len)) s) (acts-are-listed row (r .«tidok_sent») (g .kind) (g .reason))
 
   -- what an opening that opens no record sends isn't counted
   abbrev keptCost : Act → Next → ℕ

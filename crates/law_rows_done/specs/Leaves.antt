@@ -103,8 +103,8 @@ unknownBy Ends takes was came = 0
 unknownBy (Goes state) takes was came = pick takes came was
 
 -- what a row, and an opening, adds to the octets that its request has sent, n the length of its data
-abbrev pub costBy : Row → (tidok : Bool) (n : ℕ) → ℕ
-costBy row tidok n = listed sameRow (Live.costLines tidok n) row 0
+abbrev pub rowCost : Row → (tidok : Bool) (n : ℕ) → ℕ
+rowCost row tidok n = listed sameRow (Live.costLines tidok n) row 0
 
 abbrev pub openingCost : Opening → (n : ℕ) → ℕ
 openingCost opening n = listed sameOpening (Opening.costLines n) opening 0
