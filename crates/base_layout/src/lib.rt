@@ -1,5 +1,6 @@
 // The sizes, offsets and bounds of the table and of document 01, each once for code; specs/Layout.antt has them for specs, since these are two languages.
 // A contract that names the one holds it equal to the other. docs/TABLE.md shows the octets.
+#![tactic(auto)]
 
 // The header, and a record: 29 octets of fields, 19 spare, 128 of exit information.
 pub const HEADER_SIZE: usize = 624;

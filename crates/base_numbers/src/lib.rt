@@ -1,9 +1,10 @@
 // The numbers that a call gives back: refusals 1 to 11 of document 01, 15 of a salvage and 16 of the Reliable Data Service, and D1 to D7 of a malformed PDU.
+#![tactic(auto)]
 ghost use Rattle.std.specs.Prelude.{◌≡◌};
 ghost use Rattle.base_numbers.specs.Numbers.{number_of, code_of};
 
 // Document 01, "Numbers given back", in its order; then 15, a table's header that can't be salvaged, and 16, a frame of the Reliable Data Service that is malformed.
-#[derive(Drop)]
+#[derive(Clone, Copy)]
 pub enum Refusal {
     WrongSize,
     WrongTime,
@@ -21,7 +22,7 @@ pub enum Refusal {
 }
 
 // Document 01, "Bytes on the air", malformed.
-#[derive(Drop)]
+#[derive(Clone, Copy)]
 pub enum Malformed {
     // The fixed header is cut short, or a value is too wide for its place.
     D1,
@@ -40,7 +41,7 @@ pub enum Malformed {
 }
 
 // Whether something is sound, or how it is malformed.
-#[derive(Drop)]
+#[derive(Clone, Copy)]
 pub enum Verdict {
     Sound,
     Bad(Malformed),

@@ -1,13 +1,14 @@
 // The TID with its top bit, as octets have it: one type for each direction (01, "TIDs").
+#![tactic(auto)]
 ghost use Rattle.std.specs.Prelude.{◌≡◌, ◌/◌, ◌%◌, ◌<◌};
 ghost use Rattle.base_tids.specs.Tids.{received_tid};
 
 // 01, "TIDs": the TID as we write it towards the peer, its top bit set towards the initiator.
-#[derive(Drop)]
+#[derive(Clone, Copy)]
 pub struct SendTid(pub u16);
 
 // 01, "TIDs": the TID as the peer writes it towards us.
-#[derive(Drop)]
+#[derive(Clone, Copy)]
 pub struct RcvTid(pub u16);
 
 fn wide(x: u8) -> u16

@@ -1,4 +1,5 @@
 // The words that the C interface has for the answer of an engine call: 32 of the turn, two of what its record has sent, and six that the requests of document 02 added.
+#![tactic(auto)]
 ghost use Rattle.std.specs.Prelude.{◌≡◌, [], ◌∷◌, ◌+◌, ◌≤◌, ◌<◌, length};
 ghost use Rattle.base_layout.specs.Layout.{records_bound, answer_size};
 ghost use Rattle.base_lists.specs.Seq.{put};
@@ -17,7 +18,7 @@ use step_shown::Context;
 use table_record::{Record, Role};
 
 // What an answer tells of an initiator's record: the octets that it has sent, and whether its transaction ended.
-#[derive(Drop)]
+#[derive(Clone, Copy)]
 pub struct Cost {
     pub sent: u32,
     pub ended: bool,

@@ -1,4 +1,5 @@
 // The C interface's calls of the codec and the fresh table: words in and words out.
+#![tactic(auto)]
 ghost use Rattle.std.specs.Prelude.{◌≡◌, ◌≤◌, length};
 ghost use Rattle.base_layout.specs.Layout.{answer_size};
 ghost use Rattle.base_lists.specs.Seq.{put};

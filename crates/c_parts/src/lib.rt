@@ -1,4 +1,5 @@
 // The C interface's two calls that hand on parts of lent slices: a datagram's PDU to the reader, an indication's data to the caller.
+#![tactic(auto)]
 ghost use Rattle.std.specs.Prelude.{◌≡◌, ◌+◌, ◌≤◌, length};
 ghost use Rattle.c_parts.specs.Parts.{read_part_number, read_part_fields, source_said, place_said, copy_number, copy_output, data_number, data_output};
 ghost use Rattle.step_shown.specs.Parts.{data_of};

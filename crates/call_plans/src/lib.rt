@@ -1,1 +1,2 @@
 // The engine's calls as one type, with the plan of each: definitions alone.
+#![tactic(auto)]

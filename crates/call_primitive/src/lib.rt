@@ -1,4 +1,5 @@
 // What a user's answer, result or abort is refused for, and what an accepted one brings: the three primitives that name a record.
+#![tactic(auto)]
 ghost use Rattle.std.specs.Prelude.{◌≡◌, ◌+◌, ◌*◌, ◌≤◌, length};
 ghost use Rattle.base_layout.specs.Layout.{header_size, record_size, exit_bound, cell_size};
 ghost use Rattle.table_finding.specs.Finding.{Within};
@@ -16,7 +17,7 @@ use table_finding::Found;
 use table_record::Role;
 
 // A primitive: which, when, the record it names, an abort's reason, the lengths of its data and of its exit information.
-#[derive(Drop)]
+#[derive(Clone, Copy)]
 pub struct Primitive {
     pub event: Event,
     pub time: u64,

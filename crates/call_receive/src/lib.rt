@@ -1,4 +1,5 @@
 // What a received PDU is refused for, and what an accepted one brings.
+#![tactic(auto)]
 ghost use Rattle.std.specs.Prelude.{◌≡◌, ◌+◌, ◌*◌, ◌≤◌, length};
 ghost use Rattle.base_layout.specs.Layout.{header_size, record_size};
 ghost use Rattle.codec_pdu.specs.Brief.{as_pdu};
@@ -22,7 +23,7 @@ use table_record::Role;
 use table_tids::Test;
 
 // What an accepted PDU brings: to nobody nothing but its time, else a turn.
-#[derive(Drop)]
+#[derive(Clone, Copy)]
 pub enum Arrives {
     Nobody,
     Turns(Coming, Given, Call),

@@ -1,4 +1,5 @@
 // Refusals: what every call judges before it does anything.
+#![tactic(auto)]
 ghost use Rattle.std.specs.Prelude.{◌≡◌, ◌≤◌, length};
 ghost use Rattle.base_layout.specs.Layout.{header_size};
 ghost use Rattle.call_refusal.specs.Judging.{lowest, late_of, first_tests, peer_tests};
@@ -6,14 +7,14 @@ ghost use Rattle.call_refusal.specs.Judging.{lowest, late_of, first_tests, peer_
 use base_numbers::Refusal;
 
 // Whether a call is accepted.
-#[derive(Drop)]
+#[derive(Clone, Copy)]
 pub enum Judged {
     Accept,
     Refuse(Refusal),
 }
 
 // Where an accepted call finds or opens its record.
-#[derive(Drop)]
+#[derive(Clone, Copy)]
 pub enum Placed {
     At(usize),
     Refuse(Refusal),

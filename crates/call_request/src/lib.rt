@@ -1,4 +1,5 @@
 // What a request is refused for, and what an accepted one brings.
+#![tactic(auto)]
 ghost use Rattle.std.specs.Prelude.{◌≡◌, ◌≤◌, length};
 ghost use Rattle.base_layout.specs.Layout.{header_size, cell_size};
 ghost use Rattle.table_well_formed.specs.WellFormed.{WellFormed};
@@ -15,7 +16,7 @@ use table_finding::Found;
 use table_record::Role;
 
 // A request: when, to whom, of which class, with or without user acknowledgement, and how many octets of data.
-#[derive(Drop)]
+#[derive(Clone, Copy)]
 pub struct Request {
     pub time: u64,
     pub peer: u64,

@@ -1,4 +1,5 @@
 // Document 01's bench cases that have no star: two lengths in a datagram, then class 1 requests at a table of 48 records whose RCR_MAX is 0.
+#![tactic(auto)]
 use libc::STDOUT_FILENO;
 
 fn end_line() {

@@ -1,4 +1,5 @@
 // Writing a header and an item whose fields fit (WAP-224, 8.2 to 8.4): straight from their source into the output.
+#![tactic(auto)]
 ghost use Rattle.std.specs.Prelude.{◌≡◌, false, ◌+◌, ◌*◌, ◌≤◌, ◌<◌, length};
 ghost use Rattle.base_lists.specs.Seq.{bit, put};
 ghost use Rattle.codec_encoding.specs.Write.{type_number, flags_of, extra_of, header_of_is, three, item_octets, FitItem, FitKind};

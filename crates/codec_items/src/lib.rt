@@ -1,4 +1,5 @@
 // Information items of a PDU (WAP-224, 8.4): one item, and the recursive walk.
+#![tactic(auto)]
 ghost use Rattle.std.specs.Prelude.{◌≡◌, ◌≤◌, ◌<◌, length};
 ghost use Rattle.codec_items.specs.Items.{item_of, item_at};
 ghost use Rattle.codec_items.specs.Info.{sought_by};
@@ -7,7 +8,7 @@ ghost use Rattle.codec_items.specs.Found.{end_from, place_from, info_in, unknown
 use base_numbers::Verdict;
 
 // An item as it lies in its octets: identity, long form or short, and where its data stands.
-#[derive(Drop)]
+#[derive(Clone, Copy)]
 pub struct Item {
     pub identity: u8,
     pub long: bool,
@@ -16,35 +17,35 @@ pub struct Item {
 }
 
 // What stands at a place: a whole item, its CON bit and the place after it; or one that is cut.
-#[derive(Drop)]
+#[derive(Clone, Copy)]
 pub enum Got {
     One { item: Item, con: bool, next: usize },
     Cut,
 }
 
 // Place and length of the data of an Info item; 0 and 0 where there is none.
-#[derive(Drop)]
+#[derive(Clone, Copy)]
 pub struct Info {
     pub start: usize,
     pub len: usize,
 }
 
 // Identity, and place of the first octet, of an item that isn't known; 0 and 0 where there is none.
-#[derive(Drop)]
+#[derive(Clone, Copy)]
 pub struct Unknown {
     pub identity: u8,
     pub place: usize,
 }
 
 // What is sought among the items: the first Info item, or the first that isn't known.
-#[derive(Drop)]
+#[derive(Clone, Copy)]
 pub enum Sought {
     InfoItem,
     UnknownItem,
 }
 
 // What the walk finds: the items, how many they are and the place after them; or how they are malformed.
-#[derive(Drop)]
+#[derive(Clone, Copy)]
 pub struct Items {
     pub verdict: Verdict,
     pub count: usize,
@@ -93,6 +94,7 @@ pub fn item_at(s: &[u8], at: usize) -> Got
 }
 
 // The place after the items from `at` on, of which `left` are still permitted; 0 where one is cut, 1 where one more follows.
+#[tactic(auto, using(crate::proofs::WalkSteps::end_last, crate::proofs::WalkSteps::end_more))]
 pub fn end_from(s: &[u8], at: usize, left: usize) -> usize
     requires { 1 ≤ left }
     ensures { result ≡ end_from left s.now at }
@@ -124,6 +126,7 @@ fn is_sought(sought: Sought, identity: u8) -> bool
 }
 
 // The place of the first item sought among the items from `at` on, `left` at most; 0 where there is none.
+#[tactic(auto, using(crate::proofs::WalkSteps::place_last, crate::proofs::WalkSteps::place_more))]
 pub fn place_from(s: &[u8], at: usize, left: usize, sought: Sought) -> usize
     requires { 1 ≤ left }
     ensures { result ≡ place_from sought left s.now at }
@@ -148,6 +151,7 @@ pub fn place_from(s: &[u8], at: usize, left: usize, sought: Sought) -> usize
 }
 
 // The data of the item at a place; none at 0.
+#[tactic(auto, unfolding(crate::specs::Found::info_in))]
 pub fn info_in(s: &[u8], place: usize) -> Info
     ensures { result ≡ info_in s.now place }
 {
@@ -164,6 +168,7 @@ pub fn info_in(s: &[u8], place: usize) -> Info
 }
 
 // The identity of the item at a place, and that place; none at 0.
+#[tactic(auto, unfolding(crate::specs::Found::unknown_in))]
 pub fn unknown_in(s: &[u8], place: usize) -> Unknown
     ensures { result ≡ unknown_in s.now place }
 {

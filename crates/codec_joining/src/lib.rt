@@ -1,4 +1,5 @@
 // Joining PDUs to one datagram (WAP-224, 8.5).
+#![tactic(auto)]
 ghost use Rattle.std.specs.Prelude.{◌≡◌, true, ◌++◌, ◌+◌, ◌≤◌, length};
 ghost use Rattle.base_layout.specs.Layout.{datagram_bound};
 ghost use Rattle.base_lists.specs.Seq.{put, part};
@@ -11,7 +12,7 @@ use base_numbers::Refusal;
 const ROOM: usize = base_layout::DATAGRAM_BOUND - 1;
 
 // The length of the joined datagram, or why there is none.
-#[derive(Drop)]
+#[derive(Clone, Copy)]
 pub enum Joining {
     Length(usize),
     Refused(Refusal),

@@ -1,4 +1,5 @@
 // A PDU by value (WAP-224, 8.3): its kind with the fields of its fixed header, its items and its user data.
+#![tactic(auto)]
 ghost use Rattle.std.specs.Prelude.{◌≡◌};
 ghost use Rattle.codec_pdu.specs.Pdu.{sound_of, bare_of, blank_pdu};
 ghost use Rattle.codec_pdu.specs.Brief.{brief_of};
@@ -8,7 +9,7 @@ use base_tids::RcvTid;
 use codec_items::{Info, Item, Unknown};
 
 // The kind of a PDU with what its fixed header says; or why there is none.
-#[derive(Drop)]
+#[derive(Clone, Copy)]
 pub enum Kind {
     Invoke {
         gtr: bool,
@@ -54,7 +55,7 @@ pub enum Kind {
 }
 
 // A PDU: its items are the first `count` of the list; its user data lies at `start`.
-#[derive(Drop)]
+#[derive(Clone, Copy)]
 pub struct Pdu {
     pub kind: Kind,
     pub tid: u16,
@@ -65,7 +66,7 @@ pub struct Pdu {
 }
 
 // What the engine takes of a PDU: all but its items, and of these the first Info item and the first that isn't known.
-#[derive(Drop)]
+#[derive(Clone, Copy)]
 pub struct Brief {
     pub kind: Kind,
     pub tid: RcvTid,

@@ -1,4 +1,5 @@
 // Reading a PDU (WAP-224, 8.2 and 8.3).
+#![tactic(auto)]
 ghost use Rattle.std.specs.Prelude.{◌≡◌, ◌≤◌, length};
 ghost use Rattle.codec_pdu.specs.Brief.{brief_of};
 ghost use Rattle.codec_reading.specs.Read.{kind_of, head_of, long_head, good_head, bad_head, pdu_of};
@@ -10,7 +11,7 @@ use codec_items::Sought;
 use codec_pdu::{Brief, Kind};
 
 // The fixed header: the kind, whether items follow, the TID and the place after it.
-#[derive(Drop)]
+#[derive(Clone, Copy)]
 pub struct Head {
     pub kind: Kind,
     pub con: bool,
@@ -19,7 +20,7 @@ pub struct Head {
 }
 
 // The places of the first Info item and of the first item that isn't known, 0 where there is none.
-#[derive(Drop)]
+#[derive(Clone, Copy)]
 pub struct Places {
     pub info: usize,
     pub unknown: usize,

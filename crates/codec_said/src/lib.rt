@@ -1,4 +1,5 @@
 // The kind and the items that the 88 words of the C interface say.
+#![tactic(auto)]
 ghost use Rattle.std.specs.Prelude.{◌≡◌, ◌%◌, ◌≤◌, ◌<◌, length};
 ghost use Rattle.codec_said.specs.Said.{invoke_said, kind_said, item_said};
 

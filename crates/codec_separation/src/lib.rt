@@ -1,4 +1,5 @@
 // Separating concatenated PDUs (WAP-224, 8.5).
+#![tactic(auto)]
 ghost use Rattle.std.specs.Prelude.{◌≡◌, ◌+◌, ◌≤◌, ◌<◌, length};
 ghost use Rattle.base_layout.specs.Layout.{datagram_bound};
 ghost use Rattle.codec_pdu.specs.Brief.{brief_of};
@@ -9,7 +10,7 @@ use base_numbers::Refusal;
 use codec_pdu::{Brief, Kind};
 
 // How many PDUs a datagram has and where the k-th lies; or why it can't be separated.
-#[derive(Drop)]
+#[derive(Clone, Copy)]
 pub enum Separation {
     Parts {
         count: usize,
@@ -20,14 +21,14 @@ pub enum Separation {
 }
 
 // What stands at a place: a length and the part that it announces; or neither.
-#[derive(Drop)]
+#[derive(Clone, Copy)]
 enum Found {
     One { start: usize, len: usize },
     Cut,
 }
 
 // The parts passed so far: how many, and the k-th of them.
-#[derive(Drop)]
+#[derive(Clone, Copy)]
 struct Seen {
     pub count: usize,
     pub start: usize,

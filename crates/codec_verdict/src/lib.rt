@@ -1,4 +1,5 @@
 // Judging the words of a PDU to be written, in the order of the C interface.
+#![tactic(auto)]
 ghost use Rattle.std.specs.Prelude.{◌≡◌, ◌+◌, ◌≤◌, ◌<◌, min, length, ltb};
 ghost use Rattle.base_layout.specs.Layout.{datagram_bound};
 ghost use Rattle.codec_said.specs.Said.{word, kind_said, items_said, pdu_said};

@@ -1,4 +1,5 @@
 // The 88 words that the C interface has for a PDU, stored.
+#![tactic(auto)]
 ghost use Rattle.std.specs.Prelude.{◌≡◌, ◌≤◌, length};
 ghost use Rattle.base_lists.specs.Seq.{put};
 ghost use Rattle.codec_words.specs.Words.{front_words, invoke_words, other_words, rest_words, item_words, items_words};
@@ -10,7 +11,7 @@ use codec_items::{Got, Item, Unknown};
 use codec_pdu::{Brief, Kind};
 
 // An item, 1 for it and the place of the next.
-#[derive(Drop)]
+#[derive(Clone, Copy)]
 struct Placed {
     pub item: Item,
     pub one: u64,

@@ -1,4 +1,5 @@
 // Writing a PDU from the words that the C interface has for it.
+#![tactic(auto)]
 ghost use Rattle.std.specs.Prelude.{◌≡◌, false, ◌+◌, ◌≤◌, length, take};
 ghost use Rattle.base_layout.specs.Layout.{datagram_bound};
 ghost use Rattle.base_lists.specs.Seq.{put};
@@ -12,7 +13,7 @@ use base_tids::SendTid;
 use codec_pdu::Kind;
 
 // The length of the PDU that was written; or why none was.
-#[derive(Drop)]
+#[derive(Clone, Copy)]
 pub enum Written {
     Length(usize),
     Malformed(Malformed),

@@ -1,1 +1,2 @@
 // An accepted call keeps the table well formed, and changes no other record: laws only.
+#![tactic(auto)]

@@ -1,1 +1,2 @@
 // The laws of what a request costs: no code.
+#![tactic(auto)]

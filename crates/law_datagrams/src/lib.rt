@@ -1,1 +1,2 @@
 // Laws over separating and joining; there is no code here.
+#![tactic(auto)]

@@ -1,1 +1,2 @@
 // Demand 3 of the code: laws alone.
+#![tactic(auto)]

@@ -1,1 +1,2 @@
 // No code: what leaves a well-formed table well formed.
+#![tactic(auto)]

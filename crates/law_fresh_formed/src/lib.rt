@@ -1,1 +1,2 @@
 // The fresh-table call leaves a well-formed table: laws only.
+#![tactic(auto)]

@@ -1,1 +1,2 @@
 // Demand 3 holds after any calls, in any order, from any table that satisfies it: laws alone.
+#![tactic(auto)]

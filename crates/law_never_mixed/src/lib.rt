@@ -1,1 +1,2 @@
 // An abort and an empty result are never taken for each other: laws alone.
+#![tactic(auto)]

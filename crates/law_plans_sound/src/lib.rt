@@ -1,1 +1,2 @@
 // Each plan's step is sound: laws alone.
+#![tactic(auto)]

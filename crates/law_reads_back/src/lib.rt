@@ -1,1 +1,2 @@
 // What is written reads back as itself: laws only.
+#![tactic(auto)]

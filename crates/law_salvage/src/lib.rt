@@ -1,1 +1,2 @@
 // Salvage in the sentences of document 02, L12: laws alone.
+#![tactic(auto)]

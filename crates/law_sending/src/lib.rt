@@ -1,1 +1,2 @@
 // What is said of the PDUs that we send: laws only.
+#![tactic(auto)]

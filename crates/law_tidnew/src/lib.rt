@@ -1,1 +1,2 @@
 // The laws of TIDnew: no code.
+#![tactic(auto)]

@@ -1,1 +1,2 @@
 // The timer call in two: laws alone.
+#![tactic(auto)]

@@ -1,1 +1,2 @@
 // The laws of the waiting limit: no code.
+#![tactic(auto)]

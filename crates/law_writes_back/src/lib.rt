@@ -1,1 +1,2 @@
 // What was read is written as it was, reserved bits cleared: laws only.
+#![tactic(auto)]

@@ -1,4 +1,5 @@
 // The C interface of the Reliable Data Service (include/rds.h): words in and words out, over the proved crates.
+#![tactic(auto)]
 ghost use Rattle.std.specs.Prelude.{◌≡◌, ◌≤◌, length};
 ghost use Rattle.base_lists.specs.Seq.{put};
 ghost use Rattle.rds_lists.specs.Sizes.{fields_least, part_least};

@@ -1,11 +1,12 @@
 // The information field of MANAGE_PORT (TS 24.250, 5.4.2.6).
+#![tactic(auto)]
 ghost use Rattle.std.specs.Prelude.{◌≡◌, ◌+◌, ◌/◌, ◌≤◌, length, get_or, drop};
 ghost use Rattle.rds_body.specs.Body.{command_form, response_form, form_of, bitmap_of, optional_of, asking_of, answer_of, query_of, no_list, list_by, list_of, managed_of};
 
 use rds_entries::{Entries, Entry};
 
 // What follows a frame's header; or malformed.
-#[derive(Drop)]
+#[derive(Clone, Copy)]
 pub enum Body {
     // S, ERROR, DISCONNECT.
     Empty,
@@ -46,14 +47,14 @@ pub enum Body {
 }
 
 // A body and the entries of its list.
-#[derive(Drop)]
+#[derive(Clone, Copy)]
 pub struct Managed {
     pub body: Body,
     pub list: [Entry; 15],
 }
 
 // How the body of an Action is laid out.
-#[derive(Drop)]
+#[derive(Clone, Copy)]
 pub enum Form {
     Asking,
     Answer,
@@ -63,7 +64,7 @@ pub enum Form {
 }
 
 // Two octets of ports at the end, or none.
-#[derive(Drop)]
+#[derive(Clone, Copy)]
 pub enum Optional {
     Missing,
     There(u16),

@@ -1,4 +1,5 @@
 // The octets of the port book: 16 places of 276 octets after the side and the formats, and whether they are well formed.
+#![tactic(auto)]
 ghost use Rattle.std.specs.Prelude.{◌≡◌, ◌+◌, ◌≤◌, ◌<◌, length};
 ghost use Rattle.base_lists.specs.Seq.{every};
 ghost use Rattle.rds_book.specs.Book.{book_size, app_most, place_of, app_length, app_of_is, zeros, port_fits, is_action, command_fits, fits, place_ok, well_formed, keep, cleared, same};
@@ -10,7 +11,7 @@ const PLACE_SIZE: usize = 4 + APP_MOST;
 const APP_MOST: usize = 272;
 
 // The fields of a place. Port p is place p: the tag is by whom it is reserved. The command is place 0: the tag is its Action.
-#[derive(Drop)]
+#[derive(Clone, Copy)]
 pub struct Place {
     pub tag: u8,
     pub own: u8,

@@ -1,1 +1,2 @@
 // Laws of the port book's calls; no code.
+#![tactic(auto)]

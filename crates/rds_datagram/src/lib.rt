@@ -1,4 +1,5 @@
 // A datagram into a UI frame (TS 24.250, 5.2.8).
+#![tactic(auto)]
 ghost use Rattle.std.specs.Prelude.{◌≡◌, ◌+◌, ◌≤◌, length};
 ghost use Rattle.base_lists.specs.Seq.{put};
 ghost use Rattle.rds_datagram.specs.Put.{fit_of, plan_of, head_octets, done, put_of};
@@ -6,7 +7,7 @@ ghost use Rattle.rds_datagram.specs.Put.{fit_of, plan_of, head_octets, done, put
 use base_numbers::Refusal;
 
 // The length of the frame that was put; or why none was.
-#[derive(Drop)]
+#[derive(Clone, Copy)]
 pub enum Putting {
     Length(usize),
     Refused(Refusal),

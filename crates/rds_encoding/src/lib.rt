@@ -1,4 +1,5 @@
 // Storing a frame (TS 24.250, clause 5) into the output, its parts straight from the lent octets.
+#![tactic(auto)]
 ghost use Rattle.std.specs.Prelude.{◌≡◌, ◌+◌, ◌≤◌, length, take};
 ghost use Rattle.base_lists.specs.Seq.{bit, put};
 ghost use Rattle.rds_size.specs.Size.{entries_size};

@@ -1,9 +1,10 @@
 // Application IDs, and the entries of a list of ports (TS 24.250, 5.4.2.6.4 and 5.4.2.6.5): one entry, and the recursive walk.
+#![tactic(auto)]
 ghost use Rattle.std.specs.Prelude.{◌≡◌, ◌+◌, ◌≤◌, length};
 ghost use Rattle.rds_entries.specs.Entries.{application_length, entry_at, no_entries, walk_from};
 
 // An entry: two ports, where its Application ID stands, and its serialization format.
-#[derive(Drop)]
+#[derive(Clone, Copy)]
 pub struct Entry {
     pub source: u8,
     pub destination: u8,
@@ -13,14 +14,14 @@ pub struct Entry {
 }
 
 // What stands at a place: a whole entry and its length, or one that is cut short.
-#[derive(Drop)]
+#[derive(Clone, Copy)]
 pub enum Got {
     One { entry: Entry, size: usize },
     Cut,
 }
 
 // What the walk finds: whether all entries are there, the place after them, and the entries.
-#[derive(Drop)]
+#[derive(Clone, Copy)]
 pub struct Entries {
     pub whole: bool,
     pub end: usize,

@@ -1,9 +1,10 @@
 // The header of a frame of the Reliable Data Service (TS 24.250, 5.2 to 5.4).
+#![tactic(auto)]
 ghost use Rattle.std.specs.Prelude.{◌≡◌, ◌≤◌};
 ghost use Rattle.rds_frame.specs.Frame.{commanded, answered, responds, sacked, u_kind, kind_of, bad_head, ports_after, head_of};
 
 // What a frame is, with the fields that its kind alone has; or malformed.
-#[derive(Drop)]
+#[derive(Clone, Copy)]
 pub enum Kind {
     I { a: bool, ns: u8, nr: u8, r: u8 },
     S { a: bool, nr: u8, r: u8 },
@@ -13,7 +14,7 @@ pub enum Kind {
 }
 
 // The header: the kind, ADS with the two ports, and the place after it.
-#[derive(Drop)]
+#[derive(Clone, Copy)]
 pub struct Head {
     pub kind: Kind,
     pub ads: bool,

@@ -1,4 +1,5 @@
 // The items of SET_PARAMETERS (TS 24.250, 5.4.2.5): Type, Length, then Length octets, to the end.
+#![tactic(auto)]
 ghost use Rattle.std.specs.Prelude.{◌≡◌, ◌≤◌, length};
 ghost use Rattle.rds_parameters.specs.Parameters.{item_length, items_from};
 

@@ -1,4 +1,5 @@
 // The octets of a frame to be written (TS 24.250, clause 5): those of the header, and the pieces of a body. Spare bits are 0.
+#![tactic(auto)]
 ghost use Rattle.std.specs.Prelude.{◌≡◌, ◌≤◌};
 ghost use Rattle.rds_pieces.specs.Octets.{ports_octet, kind_octets, kind_length, fixed_of, bitmap_octets, asking_pieces, answer_pieces, query_pieces, list_pieces, pieces_of};
 
@@ -7,7 +8,7 @@ use rds_body::Body;
 use rds_frame::Kind;
 
 // A body in order: octets of its own, a part of the lent octets, entries, octets of its own.
-#[derive(Drop)]
+#[derive(Clone, Copy)]
 pub struct Pieces {
     pub front: [u8; 3],
     pub fronts: usize,

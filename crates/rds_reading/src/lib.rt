@@ -1,4 +1,5 @@
 // Reading a frame of the Reliable Data Service (TS 24.250, clause 5).
+#![tactic(auto)]
 ghost use Rattle.std.specs.Prelude.{◌≡◌, ◌-◌, ◌≤◌, length, drop};
 ghost use Rattle.rds_reading.specs.Read.{empty_of, items_of, manage_of, u_body, body_by, body_after, frame_of, sound_body};
 
@@ -7,7 +8,7 @@ use rds_entries::Entry;
 use rds_frame::{Head, Kind};
 
 // A frame: its header, its body, and the entries of a list. The body of a malformed one is Wrong.
-#[derive(Drop)]
+#[derive(Clone, Copy)]
 pub struct Frame {
     pub head: Head,
     pub body: Body,

@@ -1,4 +1,5 @@
 // The frame that the 100 words of the C interface say, its values cut to their places.
+#![tactic(auto)]
 ghost use Rattle.std.specs.Prelude.{◌≡◌, ◌%◌, ◌≤◌, ◌<◌, length};
 ghost use Rattle.rds_said.specs.Said.{kind_said, head_said, format_said, ports_said, asking_said, manage_said, information_said, u_said, body_said, entry_said, list_said, entries_said, frame_said};
 

@@ -1,4 +1,5 @@
 // The frames that the book's calls send: our outstanding command, a response, an ERROR response.
+#![tactic(auto)]
 ghost use Rattle.std.specs.Prelude.{◌≡◌, ◌≤◌, length};
 ghost use Rattle.base_lists.specs.Seq.{put};
 ghost use Rattle.rds_book.specs.Book.{book_size, place_of};

@@ -1,4 +1,5 @@
 // How long the body of a frame to be written is, its parts in lent octets; over 1,520 where no frame has such a body.
+#![tactic(auto)]
 ghost use Rattle.std.specs.Prelude.{◌≡◌, ◌≤◌};
 ghost use Rattle.rds_size.specs.Size.{inside, is_application, information_size, asking_size, entry_size, entries_size, list_size, body_size};
 

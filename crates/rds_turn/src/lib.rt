@@ -1,4 +1,5 @@
 // What a frame from the peer does: its row, by the book, and what the row tells.
+#![tactic(auto)]
 ghost use Rattle.std.specs.Prelude.{◌≡◌, [], ◌≤◌, ◌<◌, length, drop};
 ghost use Rattle.rds_book.specs.Book.{book_size, app_most, app_of_is, same};
 ghost use Rattle.rds_turn.specs.Turn.{application_in, application_of, repeats, collides, engaged, taken, reserved, held, released, given_format, wanting, changes, answering, reserve_turn, release_turn, asking_turn, quiet, told, own_reserved, answer_turn, error_turn, unbuilt, plain_command, plain_response, command_turn, response_turn, turn_by};
@@ -8,7 +9,7 @@ use rds_frame::Kind;
 use rds_rows::Row;
 
 // A row, and what it tells: the Action, the Status sent or received, our port and the peer's, the format, whether a port changed, the Application ID's place in the frame, M.
-#[derive(Drop)]
+#[derive(Clone, Copy)]
 pub struct Turn {
     pub row: Row,
     pub action: u8,

@@ -1,4 +1,5 @@
 // The words that the C interface has for a frame: 100 for all of it, 8 for what is taken of it.
+#![tactic(auto)]
 ghost use Rattle.std.specs.Prelude.{◌≡◌, ◌≤◌, length};
 ghost use Rattle.base_lists.specs.Seq.{put};
 ghost use Rattle.rds_words.specs.Words.{head_words, body_words, entry_words, entries_words, list_words, words_of, part_words};

@@ -1,4 +1,5 @@
 // Writing a frame from its words (TS 24.250, clause 5): the words are judged, and then the frame is stored.
+#![tactic(auto)]
 ghost use Rattle.std.specs.Prelude.{◌≡◌, ◌≤◌, length};
 ghost use Rattle.rds_datagram.specs.Put.{done};
 ghost use Rattle.rds_writing.specs.Write.{same_words, is_items, accepts, write_of};

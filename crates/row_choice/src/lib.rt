@@ -1,4 +1,5 @@
 // Which row of document 01, "Events", an event meets: in a state, and without a live record.
+#![tactic(auto)]
 ghost use Rattle.std.specs.Prelude.{◌≡◌};
 ghost use Rattle.row_choice.specs.Rows.{free_row, row_of, requested_of, invoke0_of, by_class, invoke12_of, opening_of};
 
@@ -63,7 +64,7 @@ pub fn requested(class: u8) -> Opening
 }
 
 // A PDU without a live record, and what the tests of it say.
-#[derive(Drop)]
+#[derive(Clone, Copy)]
 pub struct Arrived {
     // An Invoke, top bit 0.
     pub invoke: bool,

@@ -1,4 +1,5 @@
 // The right-hand side of a row as data: its columns, and the shapes that the rows have in common.
+#![tactic(auto)]
 ghost use Rattle.std.specs.Prelude.{◌≡◌};
 ghost use Rattle.row_columns.specs.Columns.{act_with, ended, aborted, aborted_unseen, kept, resent, held_on, holding_on, waiting, taken, acked, stored, sent, verifying, shown};
 
@@ -22,7 +23,7 @@ pub const CAPTEMPEXCEEDED: u8 = 7;
 pub const NORESPONSE: u8 = 8;
 
 // The next state; a record that ends is freed.
-#[derive(Drop)]
+#[derive(Clone, Copy)]
 pub enum Next {
     Stays,
     Ends,
@@ -30,7 +31,7 @@ pub enum Next {
 }
 
 // R is R[RCR] with RCR as the row leaves it.
-#[derive(Drop)]
+#[derive(Clone, Copy)]
 pub enum Timer {
     Runs,
     Stop,
@@ -39,7 +40,7 @@ pub enum Timer {
     R,
 }
 
-#[derive(Drop)]
+#[derive(Clone, Copy)]
 pub enum Count {
     Same,
     RcrZero,
@@ -48,7 +49,7 @@ pub enum Count {
     AecUp,
 }
 
-#[derive(Drop)]
+#[derive(Clone, Copy)]
 pub enum Mark {
     Same,
     HoldOn,
@@ -56,14 +57,14 @@ pub enum Mark {
     HoldOnSent,
 }
 
-#[derive(Drop)]
+#[derive(Clone, Copy)]
 pub enum ExitInfo {
     Same,
     Given,
     Empty,
 }
 
-#[derive(Drop)]
+#[derive(Clone, Copy)]
 pub enum Cache {
     Same,
     Set,
@@ -72,7 +73,7 @@ pub enum Cache {
 }
 
 // The PDU to send, true where it is a repeat. Abort: type and reason.
-#[derive(Drop)]
+#[derive(Clone, Copy)]
 pub enum Send {
     Nothing,
     Invoke(bool),
@@ -85,7 +86,7 @@ pub enum Send {
 }
 
 // Invoke: true where its data lies in the store. Confirm: true where an Ack caused it. Abort: type and reason.
-#[derive(Drop)]
+#[derive(Clone, Copy)]
 pub enum Indication {
     Nothing,
     Invoke(bool),
@@ -95,7 +96,7 @@ pub enum Indication {
 }
 
 // `cell`: the message given is written to the record's cell. `item`: the record takes the identity of the first unknown item of the PDU that came.
-#[derive(Drop)]
+#[derive(Clone, Copy)]
 pub struct Act {
     pub next: Next,
     pub timer: Timer,

@@ -1,7 +1,8 @@
 // What can happen, what it depends on, and the rows of document 01, "Events": types only.
+#![tactic(auto)]
 
 // What comes to a live record. "Rid": with RID set. "Cut": with TTR clear.
-#[derive(Drop)]
+#[derive(Clone, Copy)]
 pub enum Event {
     Invoke,
     InvokeRid,
@@ -24,7 +25,7 @@ pub enum Event {
 }
 
 // What a row asks of the record beside its state.
-#[derive(Drop)]
+#[derive(Clone, Copy)]
 pub struct Conditions {
     // The counter of the state is below its maximum: RCR < RCR_MAX, or AEC < AEC_MAX.
     pub more: bool,
@@ -35,7 +36,7 @@ pub struct Conditions {
 }
 
 // The rows for a live record, in document 01's order.
-#[derive(Drop)]
+#[derive(Clone, Copy)]
 pub enum Row {
     Ignored,
     // Refusal 9.
@@ -78,7 +79,7 @@ pub enum Row {
 }
 
 // The rows for what comes without a live record: a request, or a PDU.
-#[derive(Drop)]
+#[derive(Clone, Copy)]
 pub enum Opening {
     Ignored,
     Requested0,

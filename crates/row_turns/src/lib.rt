@@ -1,4 +1,5 @@
 // A turn: the right-hand side of a row applied to a record.
+#![tactic(auto)]
 ghost use Rattle.std.specs.Prelude.{◌≡◌, ◌+◌, ◌≤◌, length};
 ghost use Rattle.base_layout.specs.Layout.{header_size, time_bound};
 ghost use Rattle.table_layout.specs.Table.{intervals_of};
@@ -10,7 +11,7 @@ use table_record::{Aec, Rcr, Record, State};
 
 // What came with the event: the time, an abort's type and reason, the lengths of the message and of the exit information,
 // and the identity of the first unknown item of the PDU that came, 0 where none came or it has none.
-#[derive(Drop)]
+#[derive(Clone, Copy)]
 pub struct Given {
     pub time: u64,
     pub kind: u8,
@@ -22,7 +23,7 @@ pub struct Given {
 
 // The record afterwards (free where it ended), what is sent and indicated in order, whether the message goes to the cell
 // and the exit information to the record, and what becomes of LastTID.
-#[derive(Drop)]
+#[derive(Clone, Copy)]
 pub struct Turn {
     pub after: Record,
     pub send: Send,

@@ -1,4 +1,5 @@
 // What a received PDU is to the engine (01, "TIDs" and "Events"): whom it names, which event it is, what it brings.
+#![tactic(auto)]
 ghost use Rattle.std.specs.Prelude.{◌≡◌, ◌≤◌, length};
 ghost use Rattle.codec_items.specs.Unknown.{no_unknown};
 ghost use Rattle.codec_pdu.specs.Pdu.{unknown_of};
@@ -15,21 +16,21 @@ use row_events::Event;
 use table_record::Role;
 
 // Whom a PDU names: no record, or the one of a role and a TID of 15 bits.
-#[derive(Drop)]
+#[derive(Clone, Copy)]
 pub enum Name {
     Nobody,
     Of(Role, u16),
 }
 
 // Type and reason of an Abort.
-#[derive(Drop)]
+#[derive(Clone, Copy)]
 pub struct Cause {
     pub abort_type: u8,
     pub reason: u8,
 }
 
 // What an Invoke asks for.
-#[derive(Drop)]
+#[derive(Clone, Copy)]
 pub struct Wanted {
     pub class: u8,
     pub up: bool,

@@ -1,4 +1,5 @@
 // Carries an accepted call out at once: the turn, the table, the cell, the PDU, and the words of the answer.
+#![tactic(auto)]
 ghost use Rattle.std.specs.Prelude.{◌≡◌, ◌+◌, ◌*◌, ◌≤◌, ◌<◌, length};
 ghost use Rattle.base_layout.specs.Layout.{header_size, record_size, time_bound, tid_bound};
 ghost use Rattle.base_lists.specs.Seq.{put};
@@ -17,7 +18,7 @@ use step_plan::{Call, Holder};
 use table_record::Record;
 
 // What comes: a row for the live record at a place, or an opening for whom it concerns, with what becomes of GenTID.
-#[derive(Drop)]
+#[derive(Clone, Copy)]
 pub enum Coming {
     Live(usize, Row),
     Opens(Opening, Holder, GenTidChange),

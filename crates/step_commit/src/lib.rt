@@ -1,4 +1,5 @@
 // Carries a call's changes out on the table, one slice at a time: nothing is decided here.
+#![tactic(auto)]
 ghost use Rattle.std.specs.Prelude.{◌≡◌, ◌+◌, ◌*◌, ◌≤◌, ◌<◌, length};
 ghost use Rattle.base_layout.specs.Layout.{header_size, record_size, peers, exit_bound};
 ghost use Rattle.step_commit.specs.Commit.{record_changed, exit_stored, gen_tid_changed, cache_changed, table_changed};
@@ -7,7 +8,7 @@ use base_layout::{EXIT_OFFSET, HEADER_SIZE, RECORD_SIZE};
 use table_record::Record;
 
 // What becomes of the record: "ended records are used again", so an ended one is zeroed.
-#[derive(Drop)]
+#[derive(Clone, Copy)]
 pub enum Change {
     Nothing,
     Put(Record),
@@ -15,21 +16,21 @@ pub enum Change {
 }
 
 // What becomes of GenTID, and with it of whether TIDnew is due.
-#[derive(Drop)]
+#[derive(Clone, Copy)]
 pub enum GenTidChange {
     Unchanged,
     Set(u16, bool),
 }
 
 // What becomes of a peer's cached TID.
-#[derive(Drop)]
+#[derive(Clone, Copy)]
 pub enum TidChange {
     Unchanged,
     Set(u16),
 }
 
 // The changes of an accepted call: the record at a place, whether the given exit information is stored with it, GenTID, the cached TID of a peer, the time.
-#[derive(Drop)]
+#[derive(Clone, Copy)]
 pub struct Changes {
     pub place: usize,
     pub change: Change,

@@ -1,4 +1,5 @@
 // Carries an accepted call's step out: the table, the cell, and last the output, one lent slice at a time.
+#![tactic(auto)]
 ghost use Rattle.std.specs.Prelude.{◌≡◌, ◌+◌, ◌*◌, ◌≤◌, ◌<◌, length};
 ghost use Rattle.base_layout.specs.Layout.{output_least, records_bound};
 ghost use Rattle.base_lists.specs.Seq.{put};
@@ -14,7 +15,7 @@ use step_sending::{Sender, Source};
 use step_shown::Shown;
 
 // What a call gives: a refusal, or how much it sent, what it tells, and what the user is shown, in order.
-#[derive(Drop)]
+#[derive(Clone, Copy)]
 pub enum Answer {
     Refused(Refusal),
     Taken {

@@ -1,4 +1,5 @@
 // What an accepted call does, as data: the changes of the table, the cell, the PDU to send, what the user is shown, what the answer tells.
+#![tactic(auto)]
 ghost use Rattle.std.specs.Prelude.{◌≡◌, ◌<◌};
 ghost use Rattle.base_layout.specs.Layout.{records_bound};
 ghost use Rattle.step_plan.specs.Steps.{no_part, cell_of, message_of, sender_of, place_in, context_of, told_of_is};
@@ -13,14 +14,14 @@ use step_shown::{Context, Place, Shown};
 use table_record::Role;
 
 // A part of a lent slice.
-#[derive(Drop)]
+#[derive(Clone, Copy)]
 pub struct Part {
     pub start: usize,
     pub len: usize,
 }
 
 // Whose turn it is: the record's place and name, its class, U/P and TIDnew, and the length of the message in its cell.
-#[derive(Drop)]
+#[derive(Clone, Copy)]
 pub struct Holder {
     pub place: usize,
     pub role: Role,
@@ -33,7 +34,7 @@ pub struct Holder {
 }
 
 // What the answer is to tell beside what was sent and shown.
-#[derive(Drop)]
+#[derive(Clone, Copy)]
 pub enum Tells {
     Nothing,
     Tid,
@@ -41,7 +42,7 @@ pub enum Tells {
 }
 
 // What a call was lent: the message to send or keep, the first Info item and the user data of its PDU.
-#[derive(Drop)]
+#[derive(Clone, Copy)]
 pub struct Call {
     pub message: Part,
     pub info: Part,
@@ -50,14 +51,14 @@ pub struct Call {
 }
 
 // What the answer tells: the TID of a request, or the record that was fired.
-#[derive(Drop)]
+#[derive(Clone, Copy)]
 pub enum Told {
     Nothing,
     Tid(u16),
     Fired(Role, u8, u16),
 }
 
-#[derive(Drop)]
+#[derive(Clone, Copy)]
 pub struct Step {
     pub changes: Changes,
     pub cell: bool,
@@ -70,7 +71,7 @@ pub struct Step {
 }
 
 // What a call will do: refuse with a number and change nothing, or a step.
-#[derive(Drop)]
+#[derive(Clone, Copy)]
 pub enum Plan {
     Refuse(Refusal),
     Go(Step),

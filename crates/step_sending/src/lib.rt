@@ -1,4 +1,5 @@
 // The PDU to send goes straight to the output, from its description and its sender; and where its parts lie.
+#![tactic(auto)]
 ghost use Rattle.std.specs.Prelude.{◌≡◌, [], ◌∷◌, ◌+◌, ◌≤◌, true, false, length, eqb};
 ghost use Rattle.base_layout.specs.Layout.{exit_bound, output_least};
 ghost use Rattle.base_lists.specs.Seq.{put};
@@ -12,7 +13,7 @@ use row_columns::Send;
 use table_record::Role;
 
 // What a PDU needs of its sender: the message and the exit information are places in their sources; its Acks name the unknown item of that identity, none at 0.
-#[derive(Drop)]
+#[derive(Clone, Copy)]
 pub struct Sender {
     pub role: Role,
     pub tid: u16,
@@ -27,7 +28,7 @@ pub struct Sender {
 }
 
 // Where the parts of a PDU lie: in what the call was given, in the record's cell, in the table.
-#[derive(Drop)]
+#[derive(Clone, Copy)]
 pub enum Source {
     Nothing,
     Given,

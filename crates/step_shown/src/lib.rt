@@ -1,4 +1,5 @@
 // What the user is shown, and its data as a part of one of two lent slices.
+#![tactic(auto)]
 ghost use Rattle.std.specs.Prelude.{◌≡◌};
 ghost use Rattle.table_record.specs.Record.{role_number};
 ghost use Rattle.step_shown.specs.Shows.{no_data, invoke_place, confirm_place, shown_of, place_of};
@@ -9,14 +10,14 @@ use base_lists::flag;
 use row_columns::Indication;
 use table_record::Role;
 
-#[derive(Drop)]
+#[derive(Clone, Copy)]
 pub enum Source {
     Datagram,
     Store,
 }
 
 // A part of the datagram or of the store.
-#[derive(Drop)]
+#[derive(Clone, Copy)]
 pub struct Place {
     pub source: Source,
     pub start: usize,
@@ -24,7 +25,7 @@ pub struct Place {
 }
 
 // An abort has no data and a result no reason, so that neither can be shown as the other.
-#[derive(Drop)]
+#[derive(Clone, Copy)]
 pub enum Shown {
     Nothing,
     Invoke {
@@ -55,7 +56,7 @@ pub enum Shown {
 }
 
 // What an indication concerns: `info` the Ack's first Info item, `user` the PDU's user data, `cell` the stored message.
-#[derive(Drop)]
+#[derive(Clone, Copy)]
 pub struct Context {
     pub role: Role,
     pub peer: u8,

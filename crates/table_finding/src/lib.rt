@@ -1,4 +1,5 @@
 // Finding a record. Only the octets that a test needs are read.
+#![tactic(auto)]
 ghost use Rattle.std.specs.Prelude.{◌≡◌, ◌+◌, ◌*◌, ◌≤◌, ◌<◌, length};
 ghost use Rattle.base_layout.specs.Layout.{header_size, record_size};
 ghost use Rattle.table_record.specs.Record.{state_number};
@@ -10,7 +11,7 @@ use base_tids::RcvTid;
 use table_record::Role;
 
 // The place of a record, or that there is none.
-#[derive(Drop)]
+#[derive(Clone, Copy)]
 pub enum Found {
     At(usize),
     Nothing,
@@ -27,7 +28,7 @@ pub fn is_found(found: Found) -> bool
 }
 
 // What is looked for: a live record by its name, a free record, a live initiator record by its TID.
-#[derive(Drop)]
+#[derive(Clone, Copy)]
 enum Sought {
     Named(Role, u64, u64),
     Unused,

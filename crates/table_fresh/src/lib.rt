@@ -1,4 +1,5 @@
 // The fresh-table call: settings and the first GenTID are judged, and a table without records is made.
+#![tactic(auto)]
 ghost use Rattle.std.specs.Prelude.{◌≡◌, ◌+◌, ◌≤◌, length};
 ghost use Rattle.base_layout.specs.Layout.{a_at, limit_at, header_spare_at, base};
 ghost use Rattle.base_lists.specs.Seq.{put};
@@ -22,7 +23,7 @@ const INTERVAL_BOUND: u64 = base_layout::INTERVAL_BOUND as u64;
 
 const TID_BOUND: u64 = base_layout::TID_BOUND as u64;
 
-#[derive(Drop)]
+#[derive(Clone, Copy)]
 pub enum Fresh {
     Made,
     Refused(Refusal),

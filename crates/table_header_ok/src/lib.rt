@@ -1,4 +1,5 @@
 // Whether the header of a table is in range.
+#![tactic(auto)]
 ghost use Rattle.std.specs.Prelude.{◌≡◌, ◌≤◌, ◌<◌, length, leb, ltb};
 ghost use Rattle.base_layout.specs.Layout.{header_size, cached_bound, peers};
 ghost use Rattle.base_lists.specs.Seq.{every, pick};

@@ -1,4 +1,5 @@
 // Whether no two live records share role, peer and TID.
+#![tactic(auto)]
 ghost use Rattle.std.specs.Prelude.{◌≡◌, not, ◌+◌, ◌*◌, ◌≤◌, ◌<◌, length, eqb};
 ghost use Rattle.base_layout.specs.Layout.{header_size, record_size, records_bound};
 ghost use Rattle.base_lists.specs.Seq.{pick};

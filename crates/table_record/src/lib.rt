@@ -1,4 +1,5 @@
 // A record: its types, and its octets.
+#![tactic(auto)]
 ghost use Rattle.std.specs.Prelude.{◌≡◌, ◌+◌, ◌*◌, ◌≤◌, ◌<◌, length};
 ghost use Rattle.base_layout.specs.Layout.{fields_size, tid_count};
 ghost use Rattle.table_record.specs.Record.{role_of, class_of, state_number, state_of, flags_of, sent_most, decoded, octets_of, send_tid, rcv_tid};
@@ -6,14 +7,14 @@ ghost use Rattle.table_record.specs.Record.{role_of, class_of, state_number, sta
 use base_tids::{RcvTid, SendTid};
 
 // 01, "Events": which end of the transaction a record is.
-#[derive(Drop)]
+#[derive(Clone, Copy)]
 pub enum Role {
     Initiator,
     Responder,
 }
 
 // 01, "Events": the states of each role, each with its class, so that a state is always one for its role and class.
-#[derive(Drop)]
+#[derive(Clone, Copy)]
 pub enum State {
     Free,
     IResultWait1,
@@ -30,16 +31,16 @@ pub enum State {
 }
 
 // 01, "Events": how many Invoke, TIDok or Result PDUs were sent after the first.
-#[derive(Drop)]
+#[derive(Clone, Copy)]
 pub struct Rcr(pub u8);
 
 // 01, "Events": how many acknowledgement intervals the user let pass.
-#[derive(Drop)]
+#[derive(Clone, Copy)]
 pub struct Aec(pub u8);
 
 // A record without its exit information, which stays in the table. The deadline 0 is no timer; `limit` is the waiting limit that the deadline is, 0 where it is none;
 // `unknown` the identity of the unknown item that its Acks name, 0 none; `sent` the octets that a request sent before its result.
-#[derive(Drop)]
+#[derive(Clone, Copy)]
 pub struct Record {
     pub state: State,
     pub peer: u8,
@@ -117,6 +118,7 @@ pub fn state_number(s: State) -> u8
 }
 
 // The state of a number; a number that is none counts as free.
+#[tactic(auto, unfolding(crate::specs::Record::state_of))]
 fn state_of(n: u8) -> State
     ensures { result ≡ state_of n }
 {

@@ -1,4 +1,5 @@
 // Whether one record of a table is in range.
+#![tactic(auto)]
 ghost use Rattle.std.specs.Prelude.{◌≡◌, ◌+◌, ◌*◌, ◌≤◌, length, leb};
 ghost use Rattle.base_layout.specs.Layout.{header_size, record_size, spare_size, spare_base};
 ghost use Rattle.base_lists.specs.Seq.{bit};

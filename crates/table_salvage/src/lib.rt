@@ -1,4 +1,5 @@
 // Tables after a brown-out (02, L12): each place is judged by the test of a record that the well-formed test runs, then by its name; what can't stay is zeroed and listed.
+#![tactic(auto)]
 ghost use Rattle.std.specs.Prelude.{◌≡◌, true, ◌+◌, ◌*◌, ◌≤◌, length, replicate};
 ghost use Rattle.base_layout.specs.Layout.{header_size, record_size};
 ghost use Rattle.base_lists.specs.Seq.{put};
@@ -15,7 +16,7 @@ const PAIRS_SIZE: usize = base_layout::RECORDS_BOUND * 2;
 const LIST_SIZE: usize = 1 + PAIRS_SIZE;
 
 // What is found of a place: it stays, or the first reason why it doesn't.
-#[derive(Drop)]
+#[derive(Clone, Copy)]
 pub enum Finding {
     Stays,
     OutOfRange,

@@ -1,4 +1,5 @@
 // The TID test, the next GenTID, TIDnew, and the interval of a class and RCR.
+#![tactic(auto)]
 ghost use Rattle.std.specs.Prelude.{◌≡◌, ◌<◌};
 ghost use Rattle.table_tids.specs.Tids.{distance, test_of, next_tid, carries_tidnew, due_after, row_number, interval_of};
 
@@ -6,7 +7,7 @@ use base_layout::TID_COUNT;
 use table_record::Rcr;
 
 // 01, "TIDs": what the responder's test says of an Invoke's TID.
-#[derive(Drop)]
+#[derive(Clone, Copy)]
 pub enum Test {
     Valid,
     Verified,

@@ -1,4 +1,5 @@
 // Whether a table is well formed, and what a call is lent fits.
+#![tactic(auto)]
 ghost use Rattle.std.specs.Prelude.{◌≡◌, ◌+◌, ◌*◌, ◌≤◌, length};
 ghost use Rattle.base_layout.specs.Layout.{header_size, record_size};
 ghost use Rattle.base_lists.specs.Seq.{every};

@@ -1,4 +1,5 @@
 // The C interface (include/wtp.h): words in and words out, over the proved calls.
+#![tactic(auto)]
 ghost use Rattle.std.specs.Prelude.{◌≡◌, [], length, ltb};
 ghost use Rattle.base_layout.specs.Layout.{answer_size};
 ghost use Rattle.step_outcome.specs.Carry.{lent};

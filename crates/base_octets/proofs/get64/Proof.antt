@@ -12,4 +12,4 @@ get64_spec =
     tie.close (tie.spec
     (λ c κs. search rules) (λ c κs. search rules) (λ c. search rules) (λ c κs. search rules) (λ c κs. search rules)
     (λ c. search rules) (λ c. search rules)
-    (λ c. simp add_assoc (omega (arith, simp add_assoc at c.before.before.before.get32.ensures, simp add_assoc at c.before.get322.ensures))))
+    (λ c. simp add_assoc (omega (arith, simp add_assoc at c.before.before.before.get32.ensures, simp add_assoc at c.before.get32-2.ensures))))

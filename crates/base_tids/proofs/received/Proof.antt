@@ -7,4 +7,4 @@ pub received_spec : {M : Type 1} → statement M
 received_spec =
     tie.close (tie.spec
     (λ c κs. search rules) (λ c. search rules) (λ c κs. search rules) (λ c. search rules)
-    (λ c. simp (c.wide2.ensures.0, c.before.wide.ensures.0)))
+    (λ c. simp (c.wide-2.ensures.0, c.before.wide.ensures.0)))

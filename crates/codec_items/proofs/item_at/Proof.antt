@@ -7,9 +7,9 @@ use Rattle.codec_items.proofs.item_at.Tie as tie
 pub item_at_spec : {M : Type 1} → statement M
 item_at_spec =
     tie.close (tie.spec
-    (λ c. simp (le-ltb _ _ c.if1.true))
+    (λ c. simp (le-ltb _ _ c.if-s-at.true))
     (λ c. search rules) (λ c. search rules) (λ c κs. search rules) (λ c κs. search rules)
-    (λ c. simp (c.item_of.ensures, c.before.size.ensures.0, eq-eqb _ _ c.before.before.if2.true, lt-ltb _ _ c.before.before.before.before.if1.false))
-    (λ c. simp (le-ltb _ _ c.if3.true, ne_eqb _ _ c.before.if2.false, lt-ltb _ _ c.before.before.before.if1.false))
+    (λ c. simp (c.item_of.ensures, c.before.size.ensures.0, eq-eqb _ _ c.before.before.if-h-eq0.true, lt-ltb _ _ c.before.before.before.before.if-s-at.false))
+    (λ c. simp (le-ltb _ _ c.if-s-b.true, ne_eqb _ _ c.before.if-h-eq0.false, lt-ltb _ _ c.before.before.before.if-s-at.false))
     (λ c. search rules) (λ c. search rules) (λ c κs. search rules) (λ c κs. search rules)
-    (λ c. simp (c.item-of2.ensures, c.before.size2.ensures.0, lt-ltb _ _ c.before.before.before.if3.false, ne_eqb _ _ c.before.before.before.before.if2.false, lt-ltb _ _ c.before.before.before.before.before.before.if1.false)))
+    (λ c. simp (c.item_of-2.ensures, c.before.size-2.ensures.0, lt-ltb _ _ c.before.before.before.if-s-b.false, ne_eqb _ _ c.before.before.before.before.if-h-eq0.false, lt-ltb _ _ c.before.before.before.before.before.before.if-s-at.false)))

@@ -8,5 +8,5 @@ pub item_of_spec : {M : Type 1} → statement M
 item_of_spec =
     tie.close (tie.spec
     (λ c. search rules) (λ c. search rules)
-    (λ c. simp (le-leb _ _ c.if1.true))
-    (λ c. simp (lt-leb _ _ c.if1.false)))
+    (λ c. simp (le-leb _ _ c.if-len-s.true))
+    (λ c. simp (lt-leb _ _ c.if-len-s.false)))

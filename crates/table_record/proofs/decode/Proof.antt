@@ -11,4 +11,4 @@ decode_spec =
     (λ c. search rules) (λ c. search rules) (λ c κs. search rules) (λ c. search rules) (λ c κs. search rules)
     (λ c. search rules) (λ c. search rules) (λ c. search rules) (λ c κs. search rules) (λ c κs. search rules)
     (λ c κs. search rules) (λ c. search rules) (λ c κs. search rules)
-    (λ c. simp (c.get323.ensures, c.before.before.get322.ensures, c.before.before.before.get32.ensures, c.before.before.before.before.get64.ensures, c.before.before.before.before.before.before.before.before.get16.ensures, c.before.before.before.before.before.before.before.before.before.before.state-of.ensures)))
+    (λ c. simp (c.get32-3.ensures, c.before.before.get32-2.ensures, c.before.before.before.get32.ensures, c.before.before.before.before.get64.ensures, c.before.before.before.before.before.before.before.before.get16.ensures, c.before.before.before.before.before.before.before.before.before.before.state_of-state.ensures)))

@@ -16,4 +16,4 @@ encode_spec =
     (λ c. search rules) (λ c. search rules) (λ c. search rules) (λ c. search rules) (λ c. search rules)
     (λ c. search rules) (λ c. search rules) (λ c. search rules)
     (λ c. search rules) (λ c. search rules) (λ c. search rules) (λ c. search rules)
-    (λ c. simp (c.flags_of.ensures, c.before.bytes323.ensures, c.before.before.bytes322.ensures, c.before.before.before.bytes32.ensures, c.before.before.before.before.bytes64.ensures, c.before.before.before.before.before.bytes16.ensures, c.before.before.before.before.before.before.state_number_holds.ensures)))
+    (λ c. simp (c.flags_of-f.ensures, c.before.bytes32-n.ensures, c.before.before.bytes32-m.ensures, c.before.before.before.bytes32-l.ensures, c.before.before.before.before.bytes64-d.ensures, c.before.before.before.before.before.bytes16-t.ensures, c.before.before.before.before.before.before.state_number-s.ensures)))
