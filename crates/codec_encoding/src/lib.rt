@@ -1,5 +1,6 @@
 // Writing a header and an item whose fields fit (WAP-224, 8.2 to 8.4): straight from their source into the output.
 #![tactic(auto)]
+
 ghost use Rattle.std.specs.Prelude.{◌≡◌, false, ◌+◌, ◌*◌, ◌≤◌, ◌<◌, length};
 ghost use Rattle.base_lists.specs.Seq.{bit, put};
 ghost use Rattle.codec_encoding.specs.Write.{type_number, flags_of, extra_of, header_of_is, three, item_octets, FitItem, FitKind};
@@ -15,6 +16,7 @@ fn three_of(a: bool, b: bool, c: bool) -> u8
 }
 
 // Type and flags of a kind: the first octet without CON.
+#[tactic(auto, unfolding(crate::specs::Write::flags_of, crate::specs::Write::type_number))]
 fn first_octet(kind: Kind) -> u8
     requires { flags_of kind < 8 }
     ensures { (result ≡ type_number kind * 8 + flags_of kind) × (result < 64) }
@@ -41,6 +43,7 @@ pub fn invoke_octet(version: u8, tidnew: bool, up: bool, class: u8) -> u8
 }
 
 // Stores what stands after the TID, from place 3 of the output; the place after it.
+#[tactic(auto, using(crate::proofs::Nacks::list_inside, crate::proofs::Nacks::nack_length, crate::proofs::Nacks::nack_stored), unfolding(crate::specs::Write::FitKind, crate::specs::Write::extra_of, base_lists::specs::Seq::put))]
 fn put_extra(out: &mut [u8], src: &[u8], kind: Kind) -> usize
     requires fit_kind { FitKind src.now kind }
     requires kind_in_bounds { 3 + length (extra_of src.now kind) ≤ length out.old }
@@ -83,6 +86,7 @@ fn put_extra(out: &mut [u8], src: &[u8], kind: Kind) -> usize
 }
 
 // Stores the fixed header at the start of the output; the place after it.
+#[tactic(auto, using(crate::proofs::Headers::flags_small, crate::proofs::Headers::header_length_holds, crate::proofs::Headers::header_stored))]
 pub fn put_header(out: &mut [u8], src: &[u8], con: bool, kind: Kind, tid: SendTid) -> usize
     requires fit_kind { FitKind src.now kind }
     requires tid_in_bounds { length (header_of_is src.now con kind tid.0) ≤ length out.old }
@@ -95,6 +99,7 @@ pub fn put_header(out: &mut [u8], src: &[u8], con: bool, kind: Kind, tid: SendTi
 }
 
 // Stores an item, whose data lies in src, from `at` on; the place after it.
+#[tactic(auto, using(crate::proofs::ItemOctets::long_octets, crate::proofs::ItemOctets::short_octets, crate::proofs::ItemOctets::long_length, crate::proofs::ItemOctets::short_length), unfolding(base_lists::specs::Seq::put))]
 pub fn put_item(out: &mut [u8], at: usize, src: &[u8], it: Item, con: bool) -> usize
     requires fit_item { FitItem src.now it }
     requires it_in_bounds { at + length (item_octets src.now con it) ≤ length out.old }

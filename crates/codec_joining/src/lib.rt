@@ -1,5 +1,6 @@
 // Joining PDUs to one datagram (WAP-224, 8.5).
 #![tactic(auto)]
+
 ghost use Rattle.std.specs.Prelude.{◌≡◌, true, ◌++◌, ◌+◌, ◌≤◌, length};
 ghost use Rattle.base_layout.specs.Layout.{datagram_bound};
 ghost use Rattle.base_lists.specs.Seq.{put, part};

@@ -1,5 +1,6 @@
 // A PDU by value (WAP-224, 8.3): its kind with the fields of its fixed header, its items and its user data.
 #![tactic(auto)]
+
 ghost use Rattle.std.specs.Prelude.{◌≡◌};
 ghost use Rattle.codec_pdu.specs.Pdu.{sound_of, bare_of, blank_pdu};
 ghost use Rattle.codec_pdu.specs.Brief.{brief_of};
@@ -77,6 +78,7 @@ pub struct Brief {
 }
 
 // Whether there is a PDU of this kind.
+#[tactic(auto, unfolding(crate::specs::Pdu::sound_of))]
 pub fn sound(kind: Kind) -> bool
     ensures { result ≡ sound_of kind }
 {
@@ -94,6 +96,7 @@ pub fn sound(kind: Kind) -> bool
 }
 
 // Whether nothing may follow the items.
+#[tactic(auto, unfolding(crate::specs::Pdu::bare_of))]
 pub fn bare(kind: Kind) -> bool
     ensures { result ≡ bare_of kind }
 {

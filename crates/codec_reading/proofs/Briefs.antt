@@ -5,13 +5,13 @@ use borrow.Author.Tests.{ne_eqb, lt-ltb, le-ltb}
 use mathlib.Core.Path.{◌≡◌, refl, sym}
 use mathlib.Core.List.{List}
 use mathlib.Core.Bool.{Bool, true, false}
-use mathlib.Core.Logic.{◌⊎◌, inl, inr}
+use mathlib.Core.Logic.{inl, inr}
 use lib.ListN.{length, get_or, replicate}
 use lib.Dec.{ltb, leb, eqb}
 use Rattle.base_lists.specs.Seq.{pick}
 use Rattle.base_lists.proofs.StoresAndParts.{true_false}
-use Rattle.base_numbers.specs.declared.Malformed.TheVariants.{D1, D2, D3, D4, D7}
-use Rattle.base_numbers.specs.declared.Verdict.TheVariants.{Sound, Bad}
+use Rattle.base_numbers.specs.declared.Malformed.TheVariants.{D1, D2, D7}
+use Rattle.base_numbers.specs.declared.Verdict.TheVariants.{Sound}
 use Rattle.codec_items.specs.declared.Items.{Items}
 use Rattle.codec_items.specs.Items.{no_item, no_items_is, walk_from}
 use Rattle.codec_items.specs.Info.{first_from, info_from}

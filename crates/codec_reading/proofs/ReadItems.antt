@@ -1,8 +1,7 @@
 -- The items of a sound PDU: how the walk found them. Assumes nothing.
 use Prim.Native.Nat.{ℕ, ◌-◌, ◌≤◌}
 use native.Mathlib.Omega.{arith}
-use borrow.Author.Tests.{eq-eqb, ne_eqb, eqb-true, eqb-false, ltb-true}
-use mathlib.Core.Path.{◌≡◌, refl, sym, ap, ◌∙◌}
+use mathlib.Core.Path.{◌≡◌, refl, sym, ◌∙◌}
 use mathlib.Core.List.{List}
 use mathlib.Core.Bool.{Bool, true, false}
 use mathlib.Core.Logic.{◌⊎◌, inl, inr}
@@ -16,7 +15,7 @@ use Rattle.base_numbers.specs.declared.Refusal.TheVariants.{WrongLength}
 use Rattle.base_numbers.specs.declared.Verdict.{Verdict}
 use Rattle.base_numbers.specs.declared.Verdict.TheVariants.{Sound, Bad}
 use Rattle.codec_items.specs.declared.Items.{Items}
-use Rattle.codec_items.specs.Items.{no_item, no_items_is, walk_from}
+use Rattle.codec_items.specs.Items.{no_item, no_items_is}
 use Rattle.codec_items.specs.Found.{end_from, items_from}
 use Rattle.codec_items.proofs.Finds.{Whole, Finds, finds}
 use Rattle.codec_pdu.specs.Pdu.{sound_of, bare_of, blank_pdu}

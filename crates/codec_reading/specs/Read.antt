@@ -1,5 +1,5 @@
 -- Reading a PDU (01, "Bytes on the air"; 002, 8.2 and 8.3).
-use Rattle.std.specs.Prelude.{ℕ, ◌+◌, ◌-◌, ◌*◌, ◌/◌, ◌%◌, List, Bool, true, false, length, get_or, replicate, ltb, leb, eqb}
+use Rattle.std.specs.Prelude.{ℕ, ◌+◌, ◌-◌, ◌/◌, ◌%◌, List, Bool, false, length, get_or, replicate, ltb, leb, eqb}
 use Rattle.base_layout.specs.Layout.{datagram_bound}
 use Rattle.base_lists.specs.Seq.{pick}
 use Rattle.base_numbers.specs.declared.Malformed.{Malformed}
@@ -9,7 +9,6 @@ use Rattle.base_numbers.specs.declared.Verdict.{Verdict}
 use Rattle.base_numbers.specs.declared.Verdict.TheVariants.{Sound, Bad}
 use Rattle.base_tids.specs.Tids.{received_tid}
 use Rattle.codec_items.specs.Items.{walk_from, no_item, no_items_is}
-use Rattle.codec_items.specs.declared.Item.{Item}
 use Rattle.codec_items.specs.declared.Items.{Items}
 use Rattle.codec_pdu.specs.Pdu.{sound_of, bare_of, blank_pdu}
 use Rattle.codec_pdu.specs.declared.Kind.{Kind}

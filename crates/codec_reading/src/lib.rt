@@ -1,5 +1,6 @@
 // Reading a PDU (WAP-224, 8.2 and 8.3).
 #![tactic(auto)]
+
 ghost use Rattle.std.specs.Prelude.{◌≡◌, ◌≤◌, length};
 ghost use Rattle.codec_pdu.specs.Brief.{brief_of};
 ghost use Rattle.codec_reading.specs.Read.{kind_of, head_of, long_head, good_head, bad_head, pdu_of};
@@ -61,6 +62,7 @@ fn abort_of(flags: u8, x: u8) -> Kind
 }
 
 // What the type, the flags and the octet after the TID say.
+#[tactic(auto, unfolding(crate::specs::Read::kind_of))]
 fn kind_of(typ: u8, flags: u8, x: u8) -> Kind
     ensures { result ≡ kind_of typ flags x }
 {
@@ -217,6 +219,7 @@ fn start_of(kind: Kind, end: usize) -> usize
 }
 
 // The brief of a sound header whose items end well, at `end`.
+#[tactic(auto, unfolding(crate::specs::Brief::whole_brief))]
 fn whole(s: &[u8], head: Head, at: Places, end: usize) -> Brief
     requires { end ≤ length s.now }
     ensures { result ≡ whole_brief s.now head at end }

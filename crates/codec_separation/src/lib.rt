@@ -1,5 +1,6 @@
 // Separating concatenated PDUs (WAP-224, 8.5).
 #![tactic(auto)]
+
 ghost use Rattle.std.specs.Prelude.{◌≡◌, ◌+◌, ◌≤◌, ◌<◌, length};
 ghost use Rattle.base_layout.specs.Layout.{datagram_bound};
 ghost use Rattle.codec_pdu.specs.Brief.{brief_of};
@@ -122,6 +123,7 @@ fn walk(d: &[u8], k: usize) -> Separation
 }
 
 // The k-th part of a datagram (0 is the first), which is judged whole before any part is given.
+#[tactic(auto, unfolding(crate::specs::Separate::parts_of))]
 pub fn separate(d: &[u8], k: u64) -> Separation
     ensures { result ≡ answer_at (parts_of d.now) k }
 {
@@ -153,6 +155,7 @@ pub fn separate(d: &[u8], k: u64) -> Separation
 }
 
 // What the engine takes of the PDU that the k-th part holds: the reader is handed that part of the datagram, an empty one where there is none.
+#[tactic(auto, using(crate::proofs::Ordered::answer_inside), unfolding(crate::specs::Separate::pdu_at))]
 pub fn read_part(d: &[u8], k: u64) -> Brief
     ensures { result ≡ brief_of (pdu_at d.now (answer_at (parts_of d.now) k)) }
 {

@@ -3,7 +3,7 @@ use Prim.Native.Nat.{ℕ, zero, suc, ◌+◌, ◌-◌, ◌*◌, ◌<◌, ◌≤�
 use native.Mathlib.Omega.{arith}
 use borrow.Author.Tests.{ne_eqb}
 use mathlib.Core.Path.{◌≡◌, refl, sym, ap, ◌∙◌}
-use mathlib.Core.List.{List, [], ◌∷◌, ◌++◌}
+use mathlib.Core.List.{List, ◌∷◌, ◌++◌}
 use mathlib.Core.Bool.{Bool, true, false}
 use lib.ListN.{length, drop, replicate}
 use lib.Dec.{eqb}
@@ -18,7 +18,6 @@ use Rattle.codec_items.specs.Items.{item_at, no_item}
 use Rattle.codec_items.specs.Found.{end_from, end_after_is, items_from, list_after}
 use Rattle.codec_items.proofs.Forms.{item_inside_holds}
 use Rattle.codec_items.proofs.Finds.{Whole, items_few}
-use Rattle.codec_words.specs.declared.Placed.{Placed}
 use Rattle.codec_words.specs.Words.{item_words, items_words}
 use Rattle.codec_words.specs.Listed.{none_at, placed_by, placed_at, list_from, count_from}
 

@@ -1,5 +1,6 @@
 // The 88 words that the C interface has for a PDU, stored.
 #![tactic(auto)]
+
 ghost use Rattle.std.specs.Prelude.{◌≡◌, ◌≤◌, length};
 ghost use Rattle.base_lists.specs.Seq.{put};
 ghost use Rattle.codec_words.specs.Words.{front_words, invoke_words, other_words, rest_words, item_words, items_words};
@@ -35,6 +36,7 @@ fn no_item() -> Placed
 }
 
 // Words 0 to 4: type, GTR, TTR, RID, TID.
+#[tactic(auto, unfolding(crate::specs::Words::front_words))]
 fn front_words(kind: Kind, rcv: RcvTid) -> [u64; 5]
     ensures { result ≡ front_words kind rcv.0 }
 {
@@ -53,6 +55,7 @@ fn front_words(kind: Kind, rcv: RcvTid) -> [u64; 5]
 }
 
 // Words 5 to 8: version, TIDnew, U/P, class.
+#[tactic(auto, unfolding(crate::specs::Words::invoke_words))]
 fn invoke_words(kind: Kind) -> [u64; 4]
     ensures { result ≡ invoke_words kind }
 {
@@ -76,6 +79,7 @@ fn invoke_words(kind: Kind) -> [u64; 4]
 }
 
 // Words 9 to 14: Tve/Tok, abort type, abort reason, packet number, Nack count, start of the Nack list.
+#[tactic(auto, unfolding(crate::specs::Words::other_words))]
 fn other_words(kind: Kind) -> [u64; 6]
     ensures { result ≡ other_words kind }
 {
@@ -109,6 +113,7 @@ fn item_words(it: Item) -> [u64; 4]
 }
 
 // The item at a place, 1 for it, and the place of the item after it; no item, 0 and 0 at 0.
+#[tactic(auto, unfolding(crate::specs::Listed::placed_at))]
 fn placed_at(s: &[u8], at: usize) -> Placed
     ensures { result ≡ placed_at s.now at }
 {

@@ -9,8 +9,8 @@ pub fits_spec : {M : Type 1} → statement M
 unfolding fits_in
 fits_spec =
     tie.close (tie.spec
-    (λ c. simp (eq-eqb _ _ c.if1.true))
-    (λ c. simp (lt-ltb _ _ c.if2.true, ne_eqb _ _ c.before.if1.false))
-    (λ c. simp (lt-ltb _ _ c.if3.true, le-ltb _ _ c.before.if2.false, ne_eqb _ _ c.before.before.if1.false))
+    (λ c. simp (eq-eqb _ _ c.if-n-eq0.true))
+    (λ c. simp (lt-ltb _ _ c.if-left-n.true, ne_eqb _ _ c.before.if-n-eq0.false))
+    (λ c. simp (lt-ltb _ _ c.if-room-n.true, le-ltb _ _ c.before.if-left-n.false, ne_eqb _ _ c.before.before.if-n-eq0.false))
     (λ c κs. search rules)
-    (λ c. simp (c.length-size.ensures, le-ltb _ _ c.before.if3.false, le-ltb _ _ c.before.before.if2.false, ne_eqb _ _ c.before.before.before.if1.false)))
+    (λ c. simp (c.length_size.ensures, le-ltb _ _ c.before.if-room-n.false, le-ltb _ _ c.before.before.if-left-n.false, ne_eqb _ _ c.before.before.before.if-n-eq0.false)))

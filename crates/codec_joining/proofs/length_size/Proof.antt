@@ -8,5 +8,5 @@ pub length_size_spec : {M : Type 1} → statement M
 unfolding length_octets
 length_size_spec =
     tie.close (tie.spec
-    (λ c. simp (lt-leb _ _ c.if1.true))
-    (λ c. simp (le-leb _ _ c.if1.false)))
+    (λ c. simp (lt-leb _ _ c.if-n-gt127.true))
+    (λ c. simp (le-leb _ _ c.if-n-gt127.false)))

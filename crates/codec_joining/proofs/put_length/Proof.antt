@@ -14,12 +14,12 @@ unfolding put
 put_length_spec =
     tie.close (tie.spec
     (λ c. search rules)
-    (λ c. omega (arith, ap length (one_octet _ c.if1.true)))
+    (λ c. omega (arith, ap length (one_octet _ c.if-n-le127.true)))
     (λ c. search rules) (λ c. search rules) (λ c. search rules)
-    (λ c. omega (arith, ap length (two_octets _ c.if1.false)))
+    (λ c. omega (arith, ap length (two_octets _ c.if-n-le127.false)))
     (λ c. search rules) (λ c. search rules)
-    (λ c. simp length-set (omega (arith, ap length (two_octets _ c.if1.false))))
+    (λ c. simp length-set (omega (arith, ap length (two_octets _ c.if-n-le127.false))))
     (λ c. search rules) (λ c. search rules)
-    (λ c. rw (one_octet _ c.if1.true) (refl, refl))
+    (λ c. rw (one_octet _ c.if-n-le127.true) (refl, refl))
     (λ c. search rules)
-    (λ c. rw (two_octets _ c.if1.false) (refl, rw add-one)))
+    (λ c. rw (two_octets _ c.if-n-le127.false) (refl, rw add-one)))

@@ -8,7 +8,7 @@ use Rattle.codec_joining.proofs.put_part.Tie as tie
 
 returns : tie.Need-returns
 returns c =
-    let p = c.before.before.before.before.before.before.put-length.ensures in
+    let p = c.before.before.before.before.before.before.put_length-next.ensures in
     (omega (arith, p.0), rw (c.before.before.copy.ensures, p.0, p.1) (sym (put_append _ _ _ _)))
 
 pub put_part_spec : {M : Type 1} → statement M

@@ -8,5 +8,5 @@ pub abort_of_spec : {M : Type 1} → statement M
 unfolding kind_of
 abort_of_spec =
     tie.close (tie.spec
-    (λ c. simp (lt-ltb _ _ c.if1.true))
-    (λ c. simp (le-ltb _ _ c.if1.false)))
+    (λ c. simp (lt-ltb _ _ c.if-flags-gt1.true))
+    (λ c. simp (le-ltb _ _ c.if-flags-gt1.false)))

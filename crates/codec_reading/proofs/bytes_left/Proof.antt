@@ -7,5 +7,5 @@ pub bytes_left_spec : {M : Type 1} → statement M
 bytes_left_spec =
     tie.close (tie.spec
     (λ c κs. search rules)
-    (λ c. simp (c.if1.true, ← c.before.bare.ensures))
-    (λ c. simp (c.if1.false, ← c.before.bare.ensures)))
+    (λ c. simp (c.if-bare.true, ← c.before.bare.ensures))
+    (λ c. simp (c.if-bare.false, ← c.before.bare.ensures)))

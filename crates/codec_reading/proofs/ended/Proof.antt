@@ -10,10 +10,10 @@ unfolding ended_brief
 ended_spec =
     tie.close (tie.spec
     (λ c κs. search rules)
-    (λ c. simp (c.blank-brief.ensures, eq-eqb _ _ c.before.if1.true))
+    (λ c. simp (c.blank_brief.ensures, eq-eqb _ _ c.before.if-end-eq0.true))
     (λ c κs. search rules)
-    (λ c. simp (c.blank-brief2.ensures, eq-eqb _ _ c.before.if2.true, ne_eqb _ _ c.before.before.if1.false))
+    (λ c. simp (c.blank_brief-then-end-eq1.ensures, eq-eqb _ _ c.before.if-end-eq1.true, ne_eqb _ _ c.before.before.if-end-eq0.false))
     (λ c. search rules) (λ c κs. search rules) (λ c κs. search rules)
-    (λ c. simp (c.blank-brief3.ensures, c.before.if3.true, ← c.before.before.bytes_left.ensures, ne_eqb _ _ c.before.before.before.if2.false, ne_eqb _ _ c.before.before.before.before.if1.false))
+    (λ c. simp (c.blank_brief-then-bytes_left.ensures, c.before.if-bytes_left.true, ← c.before.before.bytes_left.ensures, ne_eqb _ _ c.before.before.before.if-end-eq1.false, ne_eqb _ _ c.before.before.before.before.if-end-eq0.false))
     (λ c κs. search rules)
-    (λ c. simp (c.whole.ensures, c.before.if3.false, ← c.before.before.bytes_left.ensures, ne_eqb _ _ c.before.before.before.if2.false, ne_eqb _ _ c.before.before.before.before.if1.false)))
+    (λ c. simp (c.whole.ensures, c.before.if-bytes_left.false, ← c.before.before.bytes_left.ensures, ne_eqb _ _ c.before.before.before.if-end-eq1.false, ne_eqb _ _ c.before.before.before.before.if-end-eq0.false)))

@@ -7,4 +7,4 @@ pub good_head_spec : {M : Type 1} → statement M
 good_head_spec =
     tie.close (tie.spec
     (λ c. search rules) (λ c. search rules) (λ c. search rules) (λ c κs. search rules) (λ c κs. search rules)
-    (λ c. simp (c.kind-of.ensures, c.before.received.ensures)))
+    (λ c. simp (c.kind_of.ensures, c.before.received-tid.ensures)))

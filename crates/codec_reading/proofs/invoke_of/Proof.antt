@@ -8,5 +8,5 @@ pub invoke_of_spec : {M : Type 1} → statement M
 unfolding kind_of
 invoke_of_spec =
     tie.close (tie.spec
-    (λ c. simp (eq-eqb _ _ c.if1.true))
-    (λ c. simp (ne_eqb _ _ c.if1.false)))
+    (λ c. simp (eq-eqb _ _ c.if-class-eq3.true))
+    (λ c. simp (ne_eqb _ _ c.if-class-eq3.false)))

@@ -9,7 +9,7 @@ pub items_at_spec : {M : Type 1} → statement M
 unfolding items_at
 items_at_spec =
     tie.close (tie.spec
-    (λ c. simp (eq-eqb _ _ c.if1.true))
+    (λ c. simp (eq-eqb _ _ c.if-s-eq0.true))
     (λ c κs. search rules)
-    (λ c. simp (← c.before.head_of.ensures, c.if2.true, ne_eqb _ _ c.before.before.if1.false))
-    (λ c. simp (← c.before.head_of.ensures, c.if2.false, ne_eqb _ _ c.before.before.if1.false)))
+    (λ c. simp (← c.before.head_of-head.ensures, c.if-head.true, ne_eqb _ _ c.before.before.if-s-eq0.false))
+    (λ c. simp (← c.before.head_of-head.ensures, c.if-head.false, ne_eqb _ _ c.before.before.if-s-eq0.false)))

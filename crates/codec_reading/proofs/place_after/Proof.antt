@@ -9,5 +9,5 @@ unfolding place_after
 place_after_spec =
     tie.close (tie.spec
     (λ c κs. search rules)
-    (λ c. simp (c.place-from.ensures, c.before.if1.true))
-    (λ c. simp c.if1.false))
+    (λ c. simp (c.place_from.ensures, c.before.if-head.true))
+    (λ c. simp c.if-head.false))

@@ -9,4 +9,4 @@ unfolding places_after
 places_after_spec =
     tie.close (tie.spec
     (λ c κs. search rules) (λ c κs. search rules)
-    (λ c. simp (c.place-after2.ensures, c.before.place_after.ensures)))
+    (λ c. simp (c.place_after-unknown.ensures, c.before.place_after-info.ensures)))

@@ -10,5 +10,5 @@ unfolding counted
 count_in_spec =
     tie.close (tie.spec
     (λ c. search rules) (λ c. search rules)
-    (λ c. simp (eq-eqb _ _ c.before.if1.true))
-    (λ c. simp (ne_eqb _ _ c.before.if1.false)))
+    (λ c. simp (eq-eqb _ _ c.before.if-seen-k.true))
+    (λ c. simp (ne_eqb _ _ c.before.if-seen-k.false)))

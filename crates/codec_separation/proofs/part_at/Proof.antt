@@ -10,8 +10,8 @@ unfolding part_at
 part_at_spec =
     tie.close (tie.spec
     (λ c. search rules) (λ c. search rules) (λ c κs. search rules) (λ c κs. search rules)
-    (λ c. simp (c.part_of.ensures, c.before.size.ensures.0, lt-ltb _ _ c.before.before.if1.true))
-    (λ c. simp (le-leb _ _ c.if2.true, le-ltb _ _ c.before.if1.false))
+    (λ c. simp (c.part_of.ensures, c.before.size.ensures.0, lt-ltb _ _ c.before.before.if-h-lt128.true))
+    (λ c. simp (le-leb _ _ c.if-d-b.true, le-ltb _ _ c.before.if-h-lt128.false))
     (λ c. search rules) (λ c. search rules) (λ c κs. search rules) (λ c. search rules) (λ c κs. search rules)
     (λ c. search rules) (λ c κs. search rules)
-    (λ c. simp (c.part-of2.ensures, c.before.size3.ensures.0, c.before.before.size2.ensures.0, lt-leb _ _ c.before.before.before.before.if2.false, le-ltb _ _ c.before.before.before.before.before.if1.false)))
+    (λ c. simp (c.part_of-2.ensures, c.before.size-3.ensures.0, c.before.before.size-2.ensures.0, lt-leb _ _ c.before.before.before.before.if-d-b.false, le-ltb _ _ c.before.before.before.before.before.if-h-lt128.false)))

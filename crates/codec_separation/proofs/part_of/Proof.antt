@@ -9,7 +9,7 @@ pub part_of_spec : {M : Type 1} → statement M
 unfolding part_of
 part_of_spec =
     tie.close (tie.spec
-    (λ c. simp (eq-eqb _ _ c.if1.true))
+    (λ c. simp (eq-eqb _ _ c.if-len-eq0.true))
     (λ c. search rules)
-    (λ c. simp (le-leb _ _ c.if2.true, ne_eqb _ _ c.before.if1.false))
-    (λ c. simp (lt-leb _ _ c.if2.false, ne_eqb _ _ c.before.if1.false)))
+    (λ c. simp (le-leb _ _ c.if-len-d.true, ne_eqb _ _ c.before.if-len-eq0.false))
+    (λ c. simp (lt-leb _ _ c.if-len-d.false, ne_eqb _ _ c.before.if-len-eq0.false)))

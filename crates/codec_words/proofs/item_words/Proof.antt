@@ -9,4 +9,4 @@ unfolding item_words
 item_words_spec =
     tie.close (tie.spec
     (λ c κs. search rules) (λ c. search rules)
-    (λ c. simp c.before.flag.ensures))
+    (λ c. simp c.before.flag-long.ensures))
