@@ -69,6 +69,7 @@ pub fn named_by(s: &[u8]) -> Name
 }
 
 // The event that a PDU of this kind is to a live record. A refused length never comes here: it counts as malformed.
+#[tactic(auto, unfolding(crate::specs::Arrivals::event_of))]
 pub fn event_of(kind: Kind) -> Event
     ensures { result ≡ event_of kind }
 {
@@ -111,6 +112,7 @@ fn no_cause() -> Cause
 }
 
 // Type and reason of an Abort; 0 and 0 of any other PDU.
+#[tactic(auto, unfolding(crate::specs::Arrivals::cause_of))]
 pub fn abort_of(kind: Kind) -> Cause
     ensures { result ≡ cause_of kind }
 {
@@ -144,6 +146,7 @@ fn invokes_us(s: &[u8]) -> bool
 }
 
 // Whether a PDU is an Ack with TIDve, top bit 1.
+#[tactic(auto, unfolding(crate::specs::Arrivals::is_tidve))]
 fn is_tidve(kind: Kind, tid: RcvTid) -> bool
     ensures { result ≡ is_tidve kind tid.0 }
 {
@@ -173,6 +176,7 @@ fn no_want() -> Wanted
 }
 
 // What an Invoke asks for; nothing of any other PDU.
+#[tactic(auto, unfolding(crate::specs::Arrivals::wanted_of))]
 pub fn wanted_by(kind: Kind) -> Wanted
     ensures { result ≡ wanted_of kind }
 {

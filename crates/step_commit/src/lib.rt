@@ -40,6 +40,7 @@ pub struct Changes {
     pub cached: TidChange,
     pub time: u64,
 }
+#[tactic(auto, unfolding(crate::specs::Commit::record_changed))]
 
 fn change_record(t: &mut [u8], place: usize, change: Change)
     requires { header_size + place * record_size + record_size ≤ length t.old }
@@ -61,6 +62,7 @@ fn store_exit(t: &mut [u8], place: usize, stored: bool, exit: &[u8])
         base_lists::store(t, HEADER_SIZE + place * RECORD_SIZE + EXIT_OFFSET, exit);
     }
 }
+#[tactic(auto, unfolding(crate::specs::Commit::gen_tid_changed))]
 
 fn change_gen_tid(t: &mut [u8], change: GenTidChange)
     requires { header_size ≤ length t.old }
@@ -74,6 +76,7 @@ fn change_gen_tid(t: &mut [u8], change: GenTidChange)
         }
     }
 }
+#[tactic(auto, unfolding(crate::specs::Commit::cache_changed))]
 
 fn change_cached(t: &mut [u8], peer: usize, change: TidChange)
     requires { (header_size ≤ length t.old) × (peer < peers) }

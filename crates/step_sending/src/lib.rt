@@ -54,6 +54,7 @@ fn put_head(out: &mut [u8], first: u8, by: Sender) -> usize
     out[2] = base_tids::low(tid);
     3
 }
+#[tactic(auto, using(base_lists::proofs::StoresAndParts::length_part), unfolding(crate::specs::Octets::FitSend, crate::specs::Octets::octets_sent, base_lists::specs::Seq::put))]
 
 fn put_invoke(out: &mut [u8], src: &[u8], again: bool, by: Sender) -> usize
     requires fit_send { FitSend src.now (Invoke again) by }
@@ -65,6 +66,7 @@ fn put_invoke(out: &mut [u8], src: &[u8], again: bool, by: Sender) -> usize
     base_lists::copy(out, 4, src, by.start, by.len);
     4 + by.len
 }
+#[tactic(auto, using(base_lists::proofs::StoresAndParts::length_part), unfolding(crate::specs::Octets::FitSend, crate::specs::Octets::octets_sent, base_lists::specs::Seq::put))]
 
 fn put_result(out: &mut [u8], src: &[u8], again: bool, by: Sender) -> usize
     requires fit_send { FitSend src.now (Result again) by }
@@ -92,6 +94,7 @@ fn put_exit(out: &mut [u8], at: usize, src: &[u8], by: Sender) -> usize
 }
 
 // An Ack that names no unknown item; `bare`: without exit information.
+#[tactic(auto, unfolding(crate::specs::Octets::ack_octets, base_lists::specs::Seq::put))]
 fn put_known_ack(out: &mut [u8], src: &[u8], again: bool, bare: bool, by: Sender) -> usize
     requires fit_ack { FitAck src.now bare by }
     requires output_least_in_bounds { output_least ≤ length out.old }
@@ -114,6 +117,7 @@ fn error_head(bare: bool) -> u8
 }
 
 // An Ack that names an unknown item, before exit information.
+#[tactic(auto, unfolding(base_lists::specs::Seq::put, crate::specs::Octets::ack_octets))]
 fn put_error_ack(out: &mut [u8], src: &[u8], again: bool, bare: bool, by: Sender) -> usize
     requires fit_ack { FitAck src.now bare by }
     requires output_least_in_bounds { output_least ≤ length out.old }
@@ -148,6 +152,7 @@ fn put_abort(out: &mut [u8], abort_type: u8, reason: u8, by: Sender) -> usize
 }
 
 // The PDU goes straight from its source to the output's start; its length.
+#[tactic(auto, unfolding(crate::specs::Octets::FitSend, crate::specs::Octets::octets_sent))]
 pub fn put_sent(out: &mut [u8], src: &[u8], send: Send, by: Sender) -> usize
     requires fit_send { FitSend src.now send by }
     requires output_least_in_bounds { output_least ≤ length out.old }
@@ -170,6 +175,7 @@ fn source_by(again: bool) -> Source
 {
     if again { Source::Cell } else { Source::Given }
 }
+#[tactic(auto, unfolding(crate::specs::Sending::source_of))]
 
 pub fn source_of(send: Send) -> Source
     ensures { result ≡ source_of send }

@@ -91,6 +91,7 @@ fn confirm_place(acked: bool, c: Context) -> Place
 }
 
 // What the user is shown for an indication.
+#[tactic(auto, unfolding(crate::specs::Shows::shown_of))]
 pub fn shown_of(i: Indication, c: Context) -> Shown
     ensures { result ≡ shown_of i c }
 {
@@ -133,6 +134,7 @@ pub fn shown_of(i: Indication, c: Context) -> Shown
 }
 
 // The place of the data shown.
+#[tactic(auto, unfolding(crate::specs::Shows::place_of))]
 pub fn place_of(s: Shown) -> Place
     ensures { result ≡ place_of s }
 {
@@ -165,6 +167,7 @@ fn source_number(place: Place) -> u64
 }
 
 // Kind, role, peer, TID.
+#[tactic(auto, unfolding(crate::specs::Words::front_words))]
 fn front_words(s: Shown) -> [u64; 4]
     ensures { result ≡ front_words s }
 {
@@ -188,6 +191,7 @@ fn front_words(s: Shown) -> [u64; 4]
 }
 
 // Class, U/P, abort type, reason.
+#[tactic(auto, unfolding(crate::specs::Words::own_words))]
 fn own_words(s: Shown) -> [u64; 4]
     ensures { result ≡ own_words s }
 {
@@ -227,6 +231,7 @@ pub fn words_of(s: Shown) -> [u64; 12]
         0,
     ]
 }
+#[tactic(auto, unfolding(crate::specs::Parts::fitting_part))]
 
 fn fitting_part(s: &[u8], start: usize, len: usize) -> &[u8]
     ensures { result.now ≡ fitting_part s.now start len }
@@ -243,6 +248,7 @@ fn fitting_part(s: &[u8], start: usize, len: usize) -> &[u8]
 }
 
 // The part that a place names.
+#[tactic(auto, unfolding(crate::specs::Parts::data_of))]
 pub fn data_of<'a>(datagram: &'a [u8], store: &'a [u8], place: Place) -> &'a [u8]
     ensures { result.now ≡ data_of datagram.now store.now place }
 {

@@ -10,4 +10,4 @@ unfolding arrived_of as_pdu
 arrived_spec =
     tie.close (tie.spec
     (λ c κs. search rules) (λ c κs. search rules) (λ c κs. search rules) (λ c κs. search rules)
-    (λ c. simp (c.before.wanted_by.ensures, c.before.before.sound.ensures, c.before.before.before.is-tidve.ensures, c.before.before.before.before.before.invokes-us.ensures)))
+    (λ c. simp (c.before.wanted_by-want.ensures, c.before.before.sound-malformed.ensures, c.before.before.before.is_tidve-tidve.ensures, c.before.before.before.before.before.invokes_us-invoke.ensures)))

@@ -9,7 +9,7 @@ pub invokes_us_spec : {M : Type 1} → statement M
 unfolding invokes_us
 invokes_us_spec =
     tie.close (tie.spec
-    (λ c. simp (lt-ltb _ _ c.if1.true))
+    (λ c. simp (lt-ltb _ _ c.if-s-lt3.true))
     (λ c. search rules) (λ c κs. search rules)
-    (λ c. simp (c.before.tid-of.ensures, eq-eqb _ _ c.before.before.if2.true, le-ltb _ _ c.before.before.before.before.if1.false))
-    (λ c. simp (ne_eqb _ _ c.if2.false, le-ltb _ _ c.before.before.if1.false)))
+    (λ c. simp (c.before.tid_of.ensures, eq-eqb _ _ c.before.before.if-s-eq1.true, le-ltb _ _ c.before.before.before.before.if-s-lt3.false))
+    (λ c. simp (ne_eqb _ _ c.if-s-eq1.false, le-ltb _ _ c.before.before.if-s-lt3.false)))

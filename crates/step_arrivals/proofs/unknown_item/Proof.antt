@@ -8,4 +8,4 @@ use Rattle.step_arrivals.proofs.unknown_item.Tie as tie
 
 pub unknown_item_spec : {M : Type 1} → statement M
 unfolding brief_of
-unknown_item_spec = tie.close (tie.spec (λ c κs. search rules) (λ c. ap (λ (b : Brief). b.unknown) c.before.brief.ensures))
+unknown_item_spec = tie.close (tie.spec (λ c κs. search rules) (λ c. ap (λ (b : Brief). b.unknown) c.before.brief-b.ensures))

@@ -10,4 +10,4 @@ commit_spec =
     tie.close (tie.spec
     (λ c κs. search rules) (λ c κs. search rules) (λ c κs. search rules) (λ c κs. search rules) (λ c κs. search rules)
     (λ c. search rules)
-    (λ c. simp (c.before.before.before.before.before.before.before.before.before.before.before.before.before.before.before.before.before.before.change-record.ensures, c.before.before.before.before.before.before.before.before.before.before.before.before.before.before.store-exit.ensures, c.before.before.before.before.before.before.before.before.before.before.change-gen-tid.ensures, c.before.before.before.before.before.before.change-cached.ensures) at c.before.before.put-clock.ensures))
+    (λ c. simp (c.before.before.before.before.before.before.before.before.before.before.before.before.before.before.before.before.before.before.change_record.ensures, c.before.before.before.before.before.before.before.before.before.before.before.before.before.before.store_exit.ensures, c.before.before.before.before.before.before.before.before.before.before.change_gen_tid.ensures, c.before.before.before.before.before.before.change_cached.ensures) at c.before.before.put_clock.ensures))

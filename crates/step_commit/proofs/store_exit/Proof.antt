@@ -9,5 +9,5 @@ unfolding exit_stored
 store_exit_spec =
     tie.close (tie.spec
     (λ c. search rules) (λ c. search rules) (λ c. search rules) (λ c κs. search rules) (λ c. search rules)
-    (λ c. rw c.before.before.before.before.if1.true c.before.before.store.ensures)
-    (λ c. rw c.if1.false))
+    (λ c. rw c.before.before.before.before.if-stored.true c.before.before.store.ensures)
+    (λ c. rw c.if-stored.false))

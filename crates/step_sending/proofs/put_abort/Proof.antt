@@ -10,4 +10,4 @@ unfolding put
 put_abort_spec =
     tie.close (tie.spec
     (λ c. search rules) (λ c κs. search rules) (λ c. search rules) (λ c. search rules)
-    (λ c. (refl, rw c.before.before.put-head.ensures.1 refl)))
+    (λ c. (refl, rw c.before.before.put_head.ensures.1 refl)))

@@ -8,6 +8,6 @@ pub put_ack_spec : {M : Type 1} → statement M
 put_ack_spec =
     tie.close (tie.spec
     (λ c κs. search rules) (λ c κs. search rules) (λ c. search rules)
-    (λ c. rw (eq-eqb _ _ c.before.before.before.before.if1.true) c.before.before.put-known-ack.ensures)
+    (λ c. rw (eq-eqb _ _ c.before.before.before.before.if-by-eq0.true) c.before.before.put_known_ack.ensures)
     (λ c. search rules)
-    (λ c. rw (ne_eqb _ _ c.before.before.before.before.if1.false) c.before.before.put-error-ack.ensures))
+    (λ c. rw (ne_eqb _ _ c.before.before.before.before.if-by-eq0.false) c.before.before.put_error_ack.ensures))

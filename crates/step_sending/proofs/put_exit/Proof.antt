@@ -9,7 +9,7 @@ use borrow.Author.Rules.{rules}
 use Rattle.step_sending.proofs.put_exit.Statement.{statement}
 use Rattle.step_sending.proofs.put_exit.Tie as tie
 
-put_item_requires : tie.Need-put-item-requires
+put_item_requires : tie.Need-put_item-requires
 put_item_requires c κs =
     let b = c.before.before.before.before in
     let a = b.args in

@@ -14,4 +14,4 @@ put_head_spec =
     (λ c κs. search rules) (λ c. search rules) (λ c κs. search rules)
     (λ c. simp length-set (omega (arith, c.before.before.before.requires)))
     (λ c κs. search rules) (λ c. search rules) (λ c. search rules)
-    (λ c. rw (c.low.ensures, c.before.high.ensures, c.before.before.tid-of.ensures) (refl, refl)))
+    (λ c. rw (c.low.ensures, c.before.high.ensures, c.before.before.tid_of-tid.ensures) (refl, refl)))

@@ -6,4 +6,4 @@ use Rattle.step_sending.proofs.tid_of.Tie as tie
 
 pub tid_of_spec : {M : Type 1} → statement M
 unfolding tid_of
-tid_of_spec = tie.close (tie.spec (λ c κs. search rules) (λ c. simp c.send-tid.ensures))
+tid_of_spec = tie.close (tie.spec (λ c κs. search rules) (λ c. simp c.send_tid.ensures))

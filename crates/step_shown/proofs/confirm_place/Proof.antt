@@ -9,5 +9,5 @@ unfolding confirm_place
 confirm_place_spec =
     tie.close (tie.spec
     (λ c κs. search rules)
-    (λ c. simp c.before.if1.true)
-    (λ c. simp (c.no_data.ensures, c.before.if1.false)))
+    (λ c. simp c.before.if-acked.true)
+    (λ c. simp (c.no_data.ensures, c.before.if-acked.false)))

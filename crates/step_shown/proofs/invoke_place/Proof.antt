@@ -7,5 +7,5 @@ pub invoke_place_spec : {M : Type 1} → statement M
 unfolding invoke_place
 invoke_place_spec =
     tie.close (tie.spec
-    (λ c. simp c.before.if1.true)
-    (λ c. simp c.before.if1.false))
+    (λ c. simp c.before.if-verified.true)
+    (λ c. simp c.before.if-verified.false))

@@ -31,7 +31,7 @@ one_by_one (Abort role peer tid type reason) = refl
 
 returns : tie.Need-returns
 returns c =
-    simp (c.source-number.ensures, c.before.place_of_holds.ensures, c.before.before.own_words_holds.ensures, c.before.before.before.front_words_holds.ensures)
+    simp (c.source_number-source.ensures, c.before.place_of-place.ensures, c.before.before.own_words-own.ensures, c.before.before.before.front_words-front.ensures)
     (one_by_one _)
 
 pub words_of_spec : {M : Type 1} → statement M
