@@ -31,6 +31,7 @@ fn free_row(e: Event) -> Row
 }
 
 // The row of a state for an event under the record's conditions.
+#[tactic(auto, unfolding(crate::specs::Rows::row_of))]
 pub fn row_of(s: State, e: Event, c: Conditions) -> Row
     ensures { result ≡ row_of s e c }
 {

@@ -23,6 +23,7 @@ fn resent(tidok: bool) -> Send
 }
 
 // The row of a live record; `kind` and `reason` are the received abort's, or `reason` the user's.
+#[tactic(auto, unfolding(crate::specs::Acts::act_of))]
 pub fn act_of(row: Row, tidok: bool, kind: u8, reason: u8) -> Act
     ensures { result ≡ act_of row tidok kind reason }
 {
@@ -67,6 +68,7 @@ pub fn act_of(row: Row, tidok: bool, kind: u8, reason: u8) -> Act
 }
 
 // The row of what comes without a live record.
+#[tactic(auto, unfolding(crate::specs::Acts::opening_act))]
 pub fn opening_act(opening: Opening) -> Act
     ensures { result ≡ opening_act opening }
 {

@@ -8,5 +8,5 @@ pub by_class_spec : {M : Type 1} → statement M
 unfolding by_class
 by_class_spec =
     tie.close (tie.spec
-    (λ c. simp (eq-eqb _ _ c.if1.true))
-    (λ c. simp (ne_eqb _ _ c.if1.false)))
+    (λ c. simp (eq-eqb _ _ c.if-class-eq1.true))
+    (λ c. simp (ne_eqb _ _ c.if-class-eq1.false)))

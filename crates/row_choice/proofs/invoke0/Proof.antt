@@ -7,7 +7,7 @@ pub invoke0_spec : {M : Type 1} → statement M
 unfolding invoke0_of
 invoke0_spec =
     tie.close (tie.spec
-    (λ c. simp c.if1.true)
-    (λ c. simp (c.if2.true, c.before.if1.false))
-    (λ c. simp (c.if3.true, c.before.if2.false, c.before.before.if1.false))
-    (λ c. simp (c.if3.false, c.before.if2.false, c.before.before.if1.false)))
+    (λ c. simp c.if-a.true)
+    (λ c. simp (c.if-a-2.true, c.before.if-a.false))
+    (λ c. simp (c.if-a-3.true, c.before.if-a-2.false, c.before.before.if-a.false))
+    (λ c. simp (c.if-a-3.false, c.before.if-a-2.false, c.before.before.if-a.false)))

@@ -8,13 +8,13 @@ pub invoke12_spec : {M : Type 1} → statement M
 unfolding invoke12_of
 invoke12_spec =
     tie.close (tie.spec
-    (λ c. simp c.if1.true)
-    (λ c. simp (c.if2.true, c.before.if1.false))
-    (λ c. simp (c.if3.true, c.before.if2.false, c.before.before.if1.false))
-    (λ c. simp (c.if4.true, c.before.if3.false, c.before.before.if2.false, c.before.before.before.if1.false))
+    (λ c. simp c.if-a.true)
+    (λ c. simp (c.if-a-2.true, c.before.if-a.false))
+    (λ c. simp (c.if-a-3.true, c.before.if-a-2.false, c.before.before.if-a.false))
+    (λ c. simp (c.if-a-4.true, c.before.if-a-3.false, c.before.before.if-a-2.false, c.before.before.before.if-a.false))
     (λ c κs. search rules)
-    (λ c. rw (c.before.if5.true, c.before.before.if4.false, c.before.before.before.if3.false, c.before.before.before.before.if2.false, c.before.before.before.before.before.if1.false) c.by-class.ensures)
+    (λ c. rw (c.before.if-a-5.true, c.before.before.if-a-4.false, c.before.before.before.if-a-3.false, c.before.before.before.before.if-a-2.false, c.before.before.before.before.before.if-a.false) c.by_class.ensures)
     (λ c κs. search rules)
-    (λ c. rw (c.before.if6.true, c.before.before.if5.false, c.before.before.before.if4.false, c.before.before.before.before.if3.false, c.before.before.before.before.before.if2.false, c.before.before.before.before.before.before.if1.false) c.by-class2.ensures)
+    (λ c. rw (c.before.if-a-6.true, c.before.before.if-a-5.false, c.before.before.before.if-a-4.false, c.before.before.before.before.if-a-3.false, c.before.before.before.before.before.if-a-2.false, c.before.before.before.before.before.before.if-a.false) c.by_class-then-a-6.ensures)
     (λ c κs. search rules)
-    (λ c. rw (c.before.if6.false, c.before.before.if5.false, c.before.before.before.if4.false, c.before.before.before.before.if3.false, c.before.before.before.before.before.if2.false, c.before.before.before.before.before.before.if1.false) c.by-class3.ensures))
+    (λ c. rw (c.before.if-a-6.false, c.before.before.if-a-5.false, c.before.before.before.if-a-4.false, c.before.before.before.before.if-a-3.false, c.before.before.before.before.before.if-a-2.false, c.before.before.before.before.before.before.if-a.false) c.by_class-2.ensures))

@@ -8,6 +8,6 @@ pub requested_spec : {M : Type 1} → statement M
 unfolding requested_of
 requested_spec =
     tie.close (tie.spec
-    (λ c. simp (eq-eqb _ _ c.if1.true))
-    (λ c. simp (eq-eqb _ _ c.if2.true, ne_eqb _ _ c.before.if1.false))
-    (λ c. simp (ne_eqb _ _ c.if2.false, ne_eqb _ _ c.before.if1.false)))
+    (λ c. simp (eq-eqb _ _ c.if-class-eq0.true))
+    (λ c. simp (eq-eqb _ _ c.if-class-eq1.true, ne_eqb _ _ c.before.if-class-eq0.false))
+    (λ c. simp (ne_eqb _ _ c.if-class-eq1.false, ne_eqb _ _ c.before.if-class-eq0.false)))

@@ -9,4 +9,4 @@ unfolding conditions_of
 conditions_of_spec =
     tie.close (tie.spec
     (λ c κs. search rules) (λ c κs. search rules) (λ c κs. search rules)
-    (λ c. simp (c.limited-of.ensures, c.before.before.mark_of.ensures, c.before.before.before.more_of.ensures)))
+    (λ c. simp (c.limited_of-limited.ensures, c.before.before.mark_of-mark.ensures, c.before.before.before.more_of-more.ensures)))
