@@ -1,5 +1,6 @@
 // Finding a record. Only the octets that a test needs are read.
 #![tactic(auto)]
+
 ghost use Rattle.std.specs.Prelude.{◌≡◌, ◌+◌, ◌*◌, ◌≤◌, ◌<◌, length};
 ghost use Rattle.base_layout.specs.Layout.{header_size, record_size};
 ghost use Rattle.table_record.specs.Record.{state_number};
@@ -81,6 +82,7 @@ fn deadline_at(t: &[u8], i: usize) -> u64
 }
 
 // The states of an initiator have the numbers 1 to 4, those of a responder 5 to 11.
+#[tactic(auto, using(crate::proofs::Fields::initiator_numbers, crate::proofs::Fields::responder_numbers))]
 fn has_role(t: &[u8], i: usize, role: Role) -> bool
     requires { header_size + i * record_size + record_size ≤ length t.now }
     ensures { result ≡ has_role role (record_at t.now i) }
@@ -224,6 +226,7 @@ pub fn is_due(t: &[u8], i: usize, time: u64) -> bool
 }
 
 // The earlier of the record i, which is due, and the best so far.
+#[tactic(auto, unfolding(crate::specs::Finding::earlier_of))]
 fn earlier_of(t: &[u8], i: usize, best: Found) -> Found
     requires record_size_in_bounds { header_size + i * record_size + record_size ≤ length t.now }
     requires within { Within t.now best }

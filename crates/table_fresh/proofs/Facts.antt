@@ -3,8 +3,8 @@ use mathlib.Core.Path.{◌≡◌, refl, sym, ap, ◌∙◌}
 use mathlib.Core.List.{List, [], ◌∷◌, ◌++◌, append_assoc}
 use Prim.Native.Nat.{ℕ, zero, suc, ◌+◌, ◌*◌, ◌-◌, ◌%◌, ◌^◌, ◌≤◌, ◌<◌}
 use native.Mathlib.Omega.{arith}
-use lib.ListN.{length, get_or, take, drop, length-append, get_or-append}
-use lib.Seq.{take_at, drop_at, get_or-append-add, get_or-append_seam}
+use lib.ListN.{length, get_or, take, drop, length-append}
+use lib.Seq.{take_at, drop_at, get_or-append-add}
 use Rattle.base_layout.specs.Layout.{record_size, cached_at, modes_at, tidnew_due_at, header_spare_at, base}
 use Rattle.base_lists.specs.Seq.{tab}
 use Rattle.base_octets.specs.Octets.{num, enc, gets}

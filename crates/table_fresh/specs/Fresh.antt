@@ -1,5 +1,5 @@
 -- The fresh-table call (01, "What the reader carries" and "Numbers given back", 1 and 10).
-use Rattle.std.specs.Prelude.{ℕ, zero, suc, ◌+◌, ◌*◌, ◌-◌, ◌%◌, List, [], ◌∷◌, ◌++◌, Bool, true, false, length, get_or, replicate, ltb, leb, eqb}
+use Rattle.std.specs.Prelude.{ℕ, zero, suc, ◌+◌, ◌*◌, ◌-◌, ◌%◌, List, [], ◌++◌, Bool, true, false, length, get_or, replicate, ltb, leb, eqb}
 use Rattle.base_layout.specs.Layout.{header_size, record_size, gen_tid_at, limit_at, modes_at, tidnew_due_at, header_spare_size, base, interval_bound, maximum_bound, tid_bound, peers, records_bound}
 use Rattle.base_numbers.specs.Numbers.{number_of}
 use Rattle.base_numbers.specs.declared.Refusal.TheVariants.{WrongSize, WrongSetting}

@@ -1,5 +1,6 @@
 // The fresh-table call: settings and the first GenTID are judged, and a table without records is made.
 #![tactic(auto)]
+
 ghost use Rattle.std.specs.Prelude.{◌≡◌, ◌+◌, ◌≤◌, length};
 ghost use Rattle.base_layout.specs.Layout.{a_at, limit_at, header_spare_at, base};
 ghost use Rattle.base_lists.specs.Seq.{put};
@@ -129,6 +130,7 @@ fn clear(t: &mut [u8])
 }
 
 // Stores a number in the octets that it has there.
+#[tactic(auto, using(crate::proofs::Written::take_enc))]
 fn put_number(t: &mut [u8], at: usize, width: usize, v: u64)
     requires { (at + width ≤ length t.old) × (width ≤ 8) }
     ensures { t.new ≡ put t.old at (enc width v) }

@@ -1,5 +1,6 @@
 // Whether the header of a table is in range.
 #![tactic(auto)]
+
 ghost use Rattle.std.specs.Prelude.{◌≡◌, ◌≤◌, ◌<◌, length, leb, ltb};
 ghost use Rattle.base_layout.specs.Layout.{header_size, cached_bound, peers};
 ghost use Rattle.base_lists.specs.Seq.{every, pick};
@@ -11,6 +12,7 @@ use table_layout::Settings;
 
 const SPARE_SIZE: usize = base_layout::CACHED_AT - base_layout::HEADER_SPARE_AT;
 
+#[tactic(auto, unfolding(crate::specs::Header::settings_ok))]
 pub fn settings_ok(s: Settings) -> bool
     ensures { result ≡ settings_ok s }
 {
@@ -33,6 +35,7 @@ fn limit_ok(modes: u8, limit: u32) -> bool
 }
 
 // The waiting limit and its mode, the flag of TIDnew, and the spare octets.
+#[tactic(auto, unfolding(crate::specs::Header::requests_ok))]
 fn requests_ok(t: &[u8]) -> bool
     requires { header_size ≤ length t.now }
     ensures { result ≡ requests_ok t.now }
@@ -93,6 +96,7 @@ fn cached_ok(t: &[u8]) -> bool
     most <= base_layout::CACHED_BOUND
 }
 
+#[tactic(auto, unfolding(crate::specs::Header::header_ok_is))]
 pub fn header_ok(t: &[u8]) -> bool
     requires { header_size ≤ length t.now }
     ensures { result ≡ header_ok_is t.now }

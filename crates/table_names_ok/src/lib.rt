@@ -1,5 +1,6 @@
 // Whether no two live records share role, peer and TID.
 #![tactic(auto)]
+
 ghost use Rattle.std.specs.Prelude.{◌≡◌, not, ◌+◌, ◌*◌, ◌≤◌, ◌<◌, length, eqb};
 ghost use Rattle.base_layout.specs.Layout.{header_size, record_size, records_bound};
 ghost use Rattle.base_lists.specs.Seq.{pick};
@@ -32,6 +33,7 @@ fn wide16(x: u16) -> u32
 }
 
 // Role, peer and TID of a live record as one number, and 0 for a free one.
+#[tactic(auto, using(crate::proofs::Keys::key_free, crate::proofs::Keys::key_live))]
 pub fn key_of(r: Record) -> u32
     ensures { Keyed r result }
 {

@@ -1,5 +1,5 @@
 -- One record of a well-formed table (01, "What the reader carries"): as a sentence, and as a test.
-use Rattle.std.specs.Prelude.{ℕ, ◌+◌, ◌≤◌, ◌<◌, List, [], ◌∷◌, Bool, ◌⊎◌, get_or, leb, eqb}
+use Rattle.std.specs.Prelude.{ℕ, ◌≤◌, ◌<◌, List, [], ◌∷◌, Bool, ◌⊎◌, get_or, leb, eqb}
 use Rattle.base_layout.specs.Layout.{record_size, spare_size, base, flags_at, spare_base, interval_bound, deadline_bound, tid_bound, peer_bound, peers, exit_bound, cell_size, state_bound, flags_bound}
 use Rattle.base_lists.specs.Seq.{pick, bit}
 use Rattle.table_record.specs.Record.{state_number, role_of, sent_most}

@@ -1,5 +1,6 @@
 // Whether one record of a table is in range.
 #![tactic(auto)]
+
 ghost use Rattle.std.specs.Prelude.{◌≡◌, ◌+◌, ◌*◌, ◌≤◌, length, leb};
 ghost use Rattle.base_layout.specs.Layout.{header_size, record_size, spare_size, spare_base};
 ghost use Rattle.base_lists.specs.Seq.{bit};
@@ -60,6 +61,7 @@ fn sent_ok(s: Settings, r: Record) -> bool
     r.sent <= sent_bound(table_record::role_of(state), s.rcr_max)
 }
 
+#[tactic(auto, unfolding(crate::specs::OneRecord::in_range))]
 fn in_range(s: Settings, r: Record) -> bool
     ensures { result ≡ in_range s r }
 {
@@ -109,6 +111,7 @@ fn spare_ok(t: &[u8], i: usize) -> bool
 }
 
 // A record whose state octet isn't zero.
+#[tactic(auto, unfolding(crate::specs::OneRecord::live_ok))]
 fn live_ok(t: &[u8], s: Settings, i: usize) -> bool
     requires { header_size + i * record_size + record_size ≤ length t.now }
     ensures { result ≡ live_ok t.now s i }

@@ -1,5 +1,6 @@
 // Whether a table is well formed, and what a call is lent fits.
 #![tactic(auto)]
+
 ghost use Rattle.std.specs.Prelude.{◌≡◌, ◌+◌, ◌*◌, ◌≤◌, length};
 ghost use Rattle.base_layout.specs.Layout.{header_size, record_size};
 ghost use Rattle.base_lists.specs.Seq.{every};
@@ -35,6 +36,7 @@ fn records_ok(t: &[u8], s: Settings, n: usize) -> bool
     true
 }
 
+#[tactic(auto, unfolding(crate::specs::WellFormed::well_formed))]
 pub fn well_formed(t: &[u8]) -> bool
     ensures { result ≡ well_formed t.now }
 {
@@ -51,6 +53,7 @@ pub fn well_formed(t: &[u8]) -> bool
     table_names_ok::names_ok(t, n)
 }
 
+#[tactic(auto, unfolding(crate::specs::WellFormed::sizes_ok))]
 pub fn sizes_ok(table: usize, store: usize, output: usize) -> bool
     ensures { result ≡ sizes_ok table store output }
 {
@@ -64,6 +67,7 @@ pub fn sizes_ok(table: usize, store: usize, output: usize) -> bool
 }
 
 // Number 1 of 01 is given exactly when this is false.
+#[tactic(auto, unfolding(crate::specs::WellFormed::fitting))]
 pub fn fits(table: &[u8], store: usize, output: usize) -> bool
     ensures { result ≡ fitting table.now store output }
 {

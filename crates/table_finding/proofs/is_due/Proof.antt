@@ -10,7 +10,7 @@ unfolding is_due
 is_due_spec =
     tie.close (tie.spec
     (λ c κs. search rules)
-    (λ c. simp (eq-eqb _ _ c.if1.true, ← c.before.deadline-at.ensures))
+    (λ c. simp (eq-eqb _ _ c.if-d-eq0.true, ← c.before.deadline_at-d.ensures))
     (λ c κs. search rules)
-    (λ c. simp (← c.is_free.ensures, le-leb _ _ c.before.if2.true, ne_eqb _ _ c.before.before.if1.false, ← c.before.before.before.deadline-at.ensures))
-    (λ c. simp (lt-leb _ _ c.if2.false, ne_eqb _ _ c.before.if1.false, ← c.before.before.deadline-at.ensures)))
+    (λ c. simp (← c.is_free.ensures, le-leb _ _ c.before.if-d-time.true, ne_eqb _ _ c.before.before.if-d-eq0.false, ← c.before.before.before.deadline_at-d.ensures))
+    (λ c. simp (lt-leb _ _ c.if-d-time.false, ne_eqb _ _ c.before.if-d-eq0.false, ← c.before.before.deadline_at-d.ensures)))

@@ -10,5 +10,5 @@ unfolding is_named
 is_named_spec =
     tie.close (tie.spec
     (λ c κs. search rules) (λ c κs. search rules) (λ c κs. search rules)
-    (λ c. simp (← c.is-of.ensures, eq-eqb _ _ c.before.if1.true, ← c.before.before.before.tid-at.ensures, ← c.before.before.wide16.ensures))
-    (λ c. simp (ne_eqb _ _ c.if1.false, ← c.before.before.tid-at.ensures, ← c.before.wide16.ensures)))
+    (λ c. simp (← c.is_of.ensures, eq-eqb _ _ c.before.if-wide16-tid.true, ← c.before.before.before.tid_at.ensures, ← c.before.before.wide16.ensures))
+    (λ c. simp (ne_eqb _ _ c.if-wide16-tid.false, ← c.before.before.tid_at.ensures, ← c.before.wide16.ensures)))

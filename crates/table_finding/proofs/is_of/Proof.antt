@@ -8,5 +8,5 @@ pub is_of_spec : {M : Type 1} → statement M
 is_of_spec =
     tie.close (tie.spec
     (λ c κs. search rules) (λ c κs. search rules)
-    (λ c. simp (← c.has-role.ensures, eq-eqb _ _ c.before.if1.true, ← c.before.before.peer-at.ensures))
-    (λ c. simp (ne_eqb _ _ c.if1.false, ← c.before.peer-at.ensures)))
+    (λ c. simp (← c.has_role.ensures, eq-eqb _ _ c.before.if-peer_at-peer.true, ← c.before.before.peer_at.ensures))
+    (λ c. simp (ne_eqb _ _ c.if-peer_at-peer.false, ← c.before.peer_at.ensures)))

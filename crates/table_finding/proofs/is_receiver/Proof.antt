@@ -10,5 +10,5 @@ unfolding is_receiver
 is_receiver_spec =
     tie.close (tie.spec
     (λ c κs. search rules) (λ c κs. search rules) (λ c κs. search rules)
-    (λ c. simp (← c.is-of.ensures, eq-eqb _ _ c.before.if1.true, ← c.before.before.before.before.before.tid-at.ensures, ← c.before.before.before.before.rcv-tid.ensures))
-    (λ c. simp (ne_eqb _ _ c.if1.false, ← c.before.before.before.before.tid-at.ensures, ← c.before.before.before.rcv-tid.ensures)))
+    (λ c. simp (← c.is_of.ensures, eq-eqb _ _ c.before.if-own-tid.true, ← c.before.before.before.before.before.tid_at.ensures, ← c.before.before.before.before.rcv_tid-own.ensures))
+    (λ c. simp (ne_eqb _ _ c.if-own-tid.false, ← c.before.before.before.before.tid_at.ensures, ← c.before.before.before.rcv_tid-own.ensures)))

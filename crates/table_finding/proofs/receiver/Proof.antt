@@ -16,20 +16,20 @@ use Rattle.table_finding.proofs.receiver.Tie as tie
 abbrev at_place : List ℕ → Role → ℕ → RcvTid → ℕ → Bool
 at_place t role peer tid i = is_receiver role peer tid (record_at t i)
 
-abbrev invariant-loop : tie.invariant-loop
-invariant-loop t n role peer tid i₀ i = (i ≤ n) × (first (at_place t role peer tid) n 0 ≡ first (at_place t role peer tid) (n - i) i)
+abbrev invariant-loop-i : tie.invariant-loop-i
+invariant-loop-i t n role peer tid i₀ i = (i ≤ n) × (first (at_place t role peer tid) n 0 ≡ first (at_place t role peer tid) (n - i) i)
 
-abbrev decreases-loop : tie.decreases-loop
-decreases-loop t n role peer tid i₀ i = n - i
+abbrev decreases-loop-i : tie.decreases-loop-i
+decreases-loop-i t n role peer tid i₀ i = n - i
 
 pub receiver_spec : {M : Type 1} → statement M
 unfolding receiver_of
 receiver_spec =
     tie.close (tie.spec
-    invariant-loop decreases-loop
+    invariant-loop-i decreases-loop-i
     (λ c. (search rules, rw sub-zero refl))
     (λ c κs. search rules)
-    (λ c. let a = c.before.before.before.before.before.args in sym (c.before.before.before.loop.invariant.1 ∙ hit (at_place a.t.now a.role a.peer a.tid) _ _ c.before.before.loop-test.true (sym c.before.is-receiver.ensures ∙ c.if1.true)))
+    (λ c. let a = c.before.before.before.before.before.args in sym (c.before.before.before.loop-i.invariant.1 ∙ hit (at_place a.t.now a.role a.peer a.tid) _ _ c.before.before.loop-i-test.true (sym c.before.is_receiver.ensures ∙ c.if-is_receiver.true)))
     (λ c. search rules) (λ c. search rules)
-    (λ c. let a = c.before.before.before.before.before.args in (search rules, c.before.before.before.loop.invariant.1 ∙ miss (at_place a.t.now a.role a.peer a.tid) _ _ c.before.before.loop-test.true (sym c.before.is-receiver.ensures ∙ c.if1.false)))
-    (λ c. sym (c.before.loop.invariant.1 ∙ none _ _ _ c.loop-test.false)))
+    (λ c. let a = c.before.before.before.before.before.args in (search rules, c.before.before.before.loop-i.invariant.1 ∙ miss (at_place a.t.now a.role a.peer a.tid) _ _ c.before.before.loop-i-test.true (sym c.before.is_receiver.ensures ∙ c.if-is_receiver.false)))
+    (λ c. sym (c.before.loop-i.invariant.1 ∙ none _ _ _ c.loop-i-test.false)))

@@ -15,19 +15,19 @@ use Rattle.table_finding.proofs.search.Tie as tie
 abbrev at_place : List ℕ → Sought → ℕ → Bool
 at_place t what i = is_sought what (record_at t i)
 
-abbrev invariant-loop : tie.invariant-loop
-invariant-loop t n what i₀ i = (i ≤ n) × (first (at_place t what) n 0 ≡ first (at_place t what) (n - i) i)
+abbrev invariant-loop-i : tie.invariant-loop-i
+invariant-loop-i t n what i₀ i = (i ≤ n) × (first (at_place t what) n 0 ≡ first (at_place t what) (n - i) i)
 
-abbrev decreases-loop : tie.decreases-loop
-decreases-loop t n what i₀ i = n - i
+abbrev decreases-loop-i : tie.decreases-loop-i
+decreases-loop-i t n what i₀ i = n - i
 
 pub search_spec : {M : Type 1} → statement M
 search_spec =
     tie.close (tie.spec
-    invariant-loop decreases-loop
+    invariant-loop-i decreases-loop-i
     (λ c. (search rules, rw sub-zero refl))
     (λ c κs. search rules)
-    (λ c. sym (c.before.before.before.loop.invariant.1 ∙ hit (at_place c.before.before.before.before.before.args.t.now c.before.before.before.before.before.args.what) _ _ c.before.before.loop-test.true (sym c.before.is-sought.ensures ∙ c.if1.true)))
+    (λ c. sym (c.before.before.before.loop-i.invariant.1 ∙ hit (at_place c.before.before.before.before.before.args.t.now c.before.before.before.before.before.args.what) _ _ c.before.before.loop-i-test.true (sym c.before.is_sought.ensures ∙ c.if-is_sought.true)))
     (λ c. search rules) (λ c. search rules)
-    (λ c. (search rules, c.before.before.before.loop.invariant.1 ∙ miss (at_place c.before.before.before.before.before.args.t.now c.before.before.before.before.before.args.what) _ _ c.before.before.loop-test.true (sym c.before.is-sought.ensures ∙ c.if1.false)))
-    (λ c. sym (c.before.loop.invariant.1 ∙ none _ _ _ c.loop-test.false)))
+    (λ c. (search rules, c.before.before.before.loop-i.invariant.1 ∙ miss (at_place c.before.before.before.before.before.args.t.now c.before.before.before.before.before.args.what) _ _ c.before.before.loop-i-test.true (sym c.before.is_sought.ensures ∙ c.if-is_sought.false)))
+    (λ c. sym (c.before.loop-i.invariant.1 ∙ none _ _ _ c.loop-i-test.false)))

@@ -8,5 +8,5 @@ pub state_at_spec : {M : Type 1} → statement M
 state_at_spec =
     tie.close (tie.spec
     (λ c. search rules) (λ c. search rules) (λ c. search rules)
-    (λ c. state_number_holds c.before.before.args.t.now c.before.before.args.i c.if1.true)
-    (λ c. no_state c.before.before.args.t.now c.before.before.args.i c.if1.false))
+    (λ c. state_number_holds c.before.before.args.t.now c.before.before.args.i c.if-n-le-STATE_BOUND.true)
+    (λ c. no_state c.before.before.args.t.now c.before.before.args.i c.if-n-le-STATE_BOUND.false))

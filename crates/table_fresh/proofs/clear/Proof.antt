@@ -9,18 +9,18 @@ use borrow.Author.Rules.{rules}
 use Rattle.table_fresh.proofs.clear.Statement.{statement}
 use Rattle.table_fresh.proofs.clear.Tie as tie
 
-abbrev invariant-loop : tie.invariant-loop
-invariant-loop t₀ i₀ t i = Stored t₀ 0 (zeros (length t₀)) t i
+abbrev invariant-loop-i : tie.invariant-loop-i
+invariant-loop-i t₀ i₀ t i = Stored t₀ 0 (zeros (length t₀)) t i
 
-abbrev decreases-loop : tie.decreases-loop
-decreases-loop t₀ i₀ t i = length t₀ - i
+abbrev decreases-loop-i : tie.decreases-loop-i
+decreases-loop-i t₀ i₀ t i = length t₀ - i
 
 pub clear_spec : {M : Type 1} → statement M
 clear_spec =
     tie.close (tie.spec
-    invariant-loop decreases-loop
+    invariant-loop-i decreases-loop-i
     (λ c. stored_none c.args.t.now 0 (zeros (length c.args.t.now)) (rw length_zeros (omega arith)))
     (λ c. search rules) (λ c. search rules) (λ c. search rules)
-    (λ c. clear_more c.before.before.args.t.now c.before.loop.t c.before.loop.i (omega arith) c.before.loop.invariant)
-    (λ c. c.before.loop.invariant.1.1)
-    (λ c. clear_all c.before.before.args.t.now c.before.loop.t c.before.loop.i (omega arith) c.before.loop.invariant))
+    (λ c. clear_more c.before.before.args.t.now c.before.loop-i.t c.before.loop-i.i (omega arith) c.before.loop-i.invariant)
+    (λ c. c.before.loop-i.invariant.1.1)
+    (λ c. clear_all c.before.before.args.t.now c.before.loop-i.t c.before.loop-i.i (omega arith) c.before.loop-i.invariant))

@@ -9,6 +9,6 @@ unfolding fresh_answer
 fresh_answer_spec =
     tie.close (tie.spec
     (λ c κs. search rules) (λ c κs. search rules)
-    (λ c. simp (c.if2.true, ← c.before.in_range_holds.ensures, c.before.before.if1.true, ← c.before.before.before.right-size.ensures))
-    (λ c. simp (c.if2.false, ← c.before.in_range_holds.ensures, c.before.before.if1.true, ← c.before.before.before.right-size.ensures))
-    (λ c. simp (c.if1.false, ← c.before.right-size.ensures)))
+    (λ c. simp (c.if-in_range.true, ← c.before.in_range.ensures, c.before.before.if-right_size.true, ← c.before.before.before.right_size.ensures))
+    (λ c. simp (c.if-in_range.false, ← c.before.in_range.ensures, c.before.before.if-right_size.true, ← c.before.before.before.right_size.ensures))
+    (λ c. simp (c.if-right_size.false, ← c.before.right_size.ensures)))

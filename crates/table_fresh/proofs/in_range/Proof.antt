@@ -10,7 +10,7 @@ unfolding in_range
 in_range_spec =
     tie.close (tie.spec
     (λ c κs. search rules) (λ c. search rules) (λ c. search rules) (λ c κs. search rules)
-    (λ c. simp (c.if3.true, ← c.before.modes-ok.ensures, c.before.before.before.before.if2.true, ← c.before.before.before.before.before.words-ok.ensures, eq-eqb _ _ c.before.before.before.before.before.before.if1.true))
-    (λ c. simp (c.if3.false, ← c.before.modes-ok.ensures, c.before.before.before.before.if2.true, ← c.before.before.before.before.before.words-ok.ensures, eq-eqb _ _ c.before.before.before.before.before.before.if1.true))
-    (λ c. simp (c.if2.false, ← c.before.words-ok.ensures, eq-eqb _ _ c.before.before.if1.true))
-    (λ c. simp (ne_eqb _ _ c.if1.false)))
+    (λ c. simp (c.if-modes_ok.true, ← c.before.modes_ok.ensures, c.before.before.before.before.if-words_ok.true, ← c.before.before.before.before.before.words_ok.ensures, eq-eqb _ _ c.before.before.before.before.before.before.if-ws-eq32.true))
+    (λ c. simp (c.if-modes_ok.false, ← c.before.modes_ok.ensures, c.before.before.before.before.if-words_ok.true, ← c.before.before.before.before.before.words_ok.ensures, eq-eqb _ _ c.before.before.before.before.before.before.if-ws-eq32.true))
+    (λ c. simp (c.if-words_ok.false, ← c.before.words_ok.ensures, eq-eqb _ _ c.before.before.if-ws-eq32.true))
+    (λ c. simp (ne_eqb _ _ c.if-ws-eq32.false)))

@@ -9,7 +9,7 @@ returns : tie.Need-returns
 unfolding put_requests
 returns c =
     let o = c.before.before.before.before.before.before in
-    c.before.before.put-number3.ensures ∙ rw (o.put-number2.ensures, o.before.before.before.before.before.put_number_holds.ensures) refl
+    c.before.before.put_number-3.ensures ∙ rw (o.put_number-2.ensures, o.before.before.before.before.before.put_number.ensures) refl
 
 pub put_requests_spec : {M : Type 1} → statement M
 put_requests_spec =

@@ -10,6 +10,6 @@ unfolding right_size
 right_size_spec =
     tie.close (tie.spec
     (λ c. search rules)
-    (λ c. simp (le-leb _ _ c.if2.true, le-leb _ _ c.before.if1.true))
-    (λ c. simp (lt-leb _ _ c.if2.false, le-leb _ _ c.before.if1.true))
-    (λ c. simp (lt-leb _ _ c.if1.false)))
+    (λ c. simp (le-leb _ _ c.if-len-le-TABLE_MOST.true, le-leb _ _ c.before.if-len-ge-TABLE_LEAST.true))
+    (λ c. simp (lt-leb _ _ c.if-len-le-TABLE_MOST.false, le-leb _ _ c.before.if-len-ge-TABLE_LEAST.true))
+    (λ c. simp (lt-leb _ _ c.if-len-ge-TABLE_LEAST.false)))

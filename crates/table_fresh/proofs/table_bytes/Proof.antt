@@ -10,6 +10,6 @@ unfolding table_bytes
 table_bytes_spec =
     tie.close (tie.spec
     (λ c. search rules) (λ c. search rules)
-    (λ c. simp (le-leb _ _ c.if2.true, le-leb _ _ c.before.if1.true))
-    (λ c. simp (lt-leb _ _ c.if2.false, le-leb _ _ c.before.if1.true))
-    (λ c. simp (lt-leb _ _ c.if1.false)))
+    (λ c. simp (le-leb _ _ c.if-records-le-RECORDS_BOUND.true, le-leb _ _ c.before.if-records-ge1.true))
+    (λ c. simp (lt-leb _ _ c.if-records-le-RECORDS_BOUND.false, le-leb _ _ c.before.if-records-ge1.true))
+    (λ c. simp (lt-leb _ _ c.if-records-ge1.false)))

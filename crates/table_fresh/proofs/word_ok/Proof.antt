@@ -8,8 +8,8 @@ pub word_ok_spec : {M : Type 1} → statement M
 unfolding word_ok
 word_ok_spec =
     tie.close (tie.spec
-    (λ c. simp (lt-ltb _ _ c.if1.true))
-    (λ c. simp (le-leb _ _ c.if3.true, lt-ltb _ _ c.before.if2.true, le-ltb _ _ c.before.before.if1.false))
-    (λ c. simp (lt-leb _ _ c.if3.false, lt-ltb _ _ c.before.if2.true, le-ltb _ _ c.before.before.if1.false))
-    (λ c. simp (lt-ltb _ _ c.if4.true, le-ltb _ _ c.before.if2.false, le-ltb _ _ c.before.before.if1.false))
-    (λ c. simp (le-ltb _ _ c.if4.false, le-ltb _ _ c.before.if2.false, le-ltb _ _ c.before.before.if1.false)))
+    (λ c. simp (lt-ltb _ _ c.if-k-lt2.true))
+    (λ c. simp (le-leb _ _ c.if-w-ge1.true, lt-ltb _ _ c.before.if-k-lt22.true, le-ltb _ _ c.before.before.if-k-lt2.false))
+    (λ c. simp (lt-leb _ _ c.if-w-ge1.false, lt-ltb _ _ c.before.if-k-lt22.true, le-ltb _ _ c.before.before.if-k-lt2.false))
+    (λ c. simp (lt-ltb _ _ c.if-k-lt24.true, le-ltb _ _ c.before.if-k-lt22.false, le-ltb _ _ c.before.before.if-k-lt2.false))
+    (λ c. simp (le-ltb _ _ c.if-k-lt24.false, le-ltb _ _ c.before.if-k-lt22.false, le-ltb _ _ c.before.before.if-k-lt2.false)))

@@ -15,25 +15,25 @@ use Rattle.table_fresh.proofs.words_ok.Tie as tie
 abbrev passes : List ℕ → ℕ → Bool
 passes ws k = word_ok k (get_or ws k 0)
 
-abbrev invariant-loop : tie.invariant-loop
-invariant-loop ws k₀ k = (k ≤ 32) × (every (passes ws) k ≡ true)
+abbrev invariant-loop-k : tie.invariant-loop-k
+invariant-loop-k ws k₀ k = (k ≤ 32) × (every (passes ws) k ≡ true)
 
-abbrev decreases-loop : tie.decreases-loop
-decreases-loop ws k₀ k = 32 - k
+abbrev decreases-loop-k : tie.decreases-loop-k
+decreases-loop-k ws k₀ k = 32 - k
 
-returns_2 : tie.Need-returns-2 invariant-loop decreases-loop
+returns_2 : tie.Need-returns invariant-loop-k decreases-loop-k
 unfolding words_ok
 returns_2 c =
-    let e : c.before.loop.k ≡ 32 = omega arith in
-    sym (rw e at c.before.loop.invariant.1)
+    let e : c.before.loop-k.k ≡ 32 = omega arith in
+    sym (rw e at c.before.loop-k.invariant.1)
 
 pub words_ok_spec : {M : Type 1} → statement M
 unfolding words_ok
 words_ok_spec =
     tie.close (tie.spec
-    invariant-loop decreases-loop
+    invariant-loop-k decreases-loop-k
     (λ c. (search rules, every_none (passes c.before.args.ws.now)))
     (λ c. search rules) (λ c. search rules) (λ c κs. search rules) (λ c. search rules) (λ c. search rules)
-    (λ c. (search rules, every_more (passes c.before.before.before.before.before.before.args.ws.now) c.before.before.before.before.loop.k (sym c.before.word_ok.ensures ∙ c.if1.true) c.before.before.before.before.loop.invariant.1))
-    (λ c. sym (every_fails (passes c.before.before.before.before.before.before.args.ws.now) 32 c.before.before.before.before.loop.k c.before.before.before.loop-test.true (sym c.before.word_ok.ensures ∙ c.if1.false)))
+    (λ c. (search rules, every_more (passes c.before.before.before.before.before.before.args.ws.now) c.before.before.before.before.loop-k.k (sym c.before.word_ok.ensures ∙ c.if-word_ok.true) c.before.before.before.before.loop-k.invariant.1))
+    (λ c. sym (every_fails (passes c.before.before.before.before.before.before.args.ws.now) 32 c.before.before.before.before.loop-k.k c.before.before.before.loop-k-test.true (sym c.before.word_ok.ensures ∙ c.if-word_ok.false)))
     returns_2)

@@ -34,23 +34,23 @@ module _ (cached : ℕ → ℕ) (bound : ℕ) where
       let k : n ≡ i = omega arith in
       rw k e
 
-abbrev invariant-loop : tie.invariant-loop
-invariant-loop t most₀ peer₀ most peer = (peer ≤ peers) × (leb most cached_bound ≡ every (λ p. leb (cached_of t p) cached_bound) peer)
+abbrev invariant-loop-peer : tie.invariant-loop-peer
+invariant-loop-peer t most₀ peer₀ most peer = (peer ≤ peers) × (leb most cached_bound ≡ every (λ p. leb (cached_of t p) cached_bound) peer)
 
-abbrev decreases-loop : tie.decreases-loop
-decreases-loop t most₀ peer₀ most peer = peers - peer
+abbrev decreases-loop-peer : tie.decreases-loop-peer
+decreases-loop-peer t most₀ peer₀ most peer = peers - peer
 
-loop_again : tie.Need-loop-preserved invariant-loop decreases-loop
+loop_again : tie.Need-loop-peer-preserved invariant-loop-peer decreases-loop-peer
 loop_again c =
     let a = c.before.before.before.before.before.args in
-    let l = c.before.before.before.loop in
-    (search rules, larger_more (cached_of a.t.now) cached_bound l.peer l.most c.before.cached-of.result c.larger.result l.invariant.1 c.before.cached-of.ensures c.larger.ensures)
+    let l = c.before.before.before.loop-peer in
+    (search rules, larger_more (cached_of a.t.now) cached_bound l.peer l.most c.before.cached_of.result c.larger-most.result l.invariant.1 c.before.cached_of.ensures c.larger-most.ensures)
 
 pub cached_ok_spec : {M : Type 1} → statement M
 unfolding every
 cached_ok_spec =
     tie.close (tie.spec
-    invariant-loop decreases-loop
+    invariant-loop-peer decreases-loop-peer
     (λ c. (search rules, refl))
     (λ c κs. search rules) (λ c κs. search rules) (λ c. search rules) (λ c. search rules) loop_again
-    (λ c. larger_done (cached_of c.before.before.before.args.t.now) cached_bound peers c.before.loop.peer c.before.loop.most c.before.loop.invariant.0 c.loop-test.false c.before.loop.invariant.1))
+    (λ c. larger_done (cached_of c.before.before.before.args.t.now) cached_bound peers c.before.loop-peer.peer c.before.loop-peer.most c.before.loop-peer.invariant.0 c.loop-peer-test.false c.before.loop-peer.invariant.1))

@@ -11,5 +11,5 @@ unfolding interval_at
 outside_spec =
     tie.close (tie.spec
     (λ c. search rules) (λ c. search rules) (λ c κs. search rules) (λ c κs. search rules)
-    (λ c. simp (c.if1.true, ← (c.before.interval-ok.ensures ∙ ap interval c.before.before.get32.ensures)))
-    (λ c. simp (c.if1.false, ← (c.before.interval-ok.ensures ∙ ap interval c.before.before.get32.ensures))))
+    (λ c. simp (c.if-interval_ok.true, ← (c.before.interval_ok.ensures ∙ ap interval c.before.before.get32.ensures)))
+    (λ c. simp (c.if-interval_ok.false, ← (c.before.interval_ok.ensures ∙ ap interval c.before.before.get32.ensures))))

@@ -10,23 +10,23 @@ use borrow.Author.Rules.{rules}
 use Rattle.table_header_ok.proofs.rows_ok.Statement.{statement}
 use Rattle.table_header_ok.proofs.rows_ok.Tie as tie
 
-abbrev invariant-loop : tie.invariant-loop
-invariant-loop t marks₀ k₀ marks k = (k ≤ 18) × (eqb marks 0 ≡ every (λ j. interval (interval_at t j)) k)
+abbrev invariant-loop-k : tie.invariant-loop-k
+invariant-loop-k t marks₀ k₀ marks k = (k ≤ 18) × (eqb marks 0 ≡ every (λ j. interval (interval_at t j)) k)
 
-abbrev decreases-loop : tie.decreases-loop
-decreases-loop t marks₀ k₀ marks k = 18 - k
+abbrev decreases-loop-k : tie.decreases-loop-k
+decreases-loop-k t marks₀ k₀ marks k = 18 - k
 
-loop_again : tie.Need-loop-preserved invariant-loop decreases-loop
+loop_again : tie.Need-loop-k-preserved invariant-loop-k decreases-loop-k
 loop_again c =
     let a = c.before.before.before.before.args in
-    let l = c.before.before.loop in
-    (search rules, marks_more (λ j. interval (interval_at a.t.now j)) l.k l.marks c.outside.result l.invariant.1 c.outside.ensures)
+    let l = c.before.before.loop-k in
+    (search rules, marks_more (λ j. interval (interval_at a.t.now j)) l.k l.marks c.outside-marks.result l.invariant.1 c.outside-marks.ensures)
 
 pub rows_ok_spec : {M : Type 1} → statement M
 unfolding every
 rows_ok_spec =
     tie.close (tie.spec
-    invariant-loop decreases-loop
+    invariant-loop-k decreases-loop-k
     (λ c. (search rules, refl))
     (λ c κs. search rules) (λ c. search rules) (λ c. search rules) loop_again
-    (λ c. marks_done (λ j. interval (interval_at c.before.before.before.args.t.now j)) 18 c.before.loop.k c.before.loop.marks c.before.loop.invariant.0 c.loop-test.false c.before.loop.invariant.1))
+    (λ c. marks_done (λ j. interval (interval_at c.before.before.before.args.t.now j)) 18 c.before.loop-k.k c.before.loop-k.marks c.before.loop-k.invariant.0 c.loop-k-test.false c.before.loop-k.invariant.1))

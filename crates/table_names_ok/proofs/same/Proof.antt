@@ -6,5 +6,5 @@ use Rattle.table_names_ok.proofs.same.Tie as tie
 pub same_spec : {M : Type 1} → statement M
 same_spec =
     tie.close (tie.spec
-    (λ c. simp (eq-eqb _ _ c.if1.true))
-    (λ c. simp (ne_eqb _ _ c.if1.false)))
+    (λ c. simp (eq-eqb _ _ c.if-a-b.true))
+    (λ c. simp (ne_eqb _ _ c.if-a-b.false)))

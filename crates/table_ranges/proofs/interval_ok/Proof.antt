@@ -8,5 +8,5 @@ pub interval_ok_spec : {M : Type 1} → statement M
 unfolding interval
 interval_ok_spec =
     tie.close (tie.spec
-    (λ c. simp (le-leb _ _ c.if1.true))
-    (λ c. simp (lt-leb _ _ c.if1.false)))
+    (λ c. simp (le-leb _ _ c.if-v-ge1.true))
+    (λ c. simp (lt-leb _ _ c.if-v-ge1.false)))

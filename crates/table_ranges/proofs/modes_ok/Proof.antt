@@ -8,7 +8,7 @@ pub modes_ok_spec : {M : Type 1} → statement M
 unfolding modes_ok interval
 modes_ok_spec =
     tie.close (tie.spec
-    (λ c. simp (eq-eqb _ _ c.if1.true))
-    (λ c. simp (le-leb _ _ c.if3.true, eq-eqb _ _ c.before.if2.true, ne_eqb _ _ c.before.before.if1.false))
-    (λ c. simp (lt-leb _ _ c.if3.false, eq-eqb _ _ c.before.if2.true, ne_eqb _ _ c.before.before.if1.false))
-    (λ c. simp (ne_eqb _ _ c.if2.false, ne_eqb _ _ c.before.if1.false)))
+    (λ c. simp (eq-eqb _ _ c.if-modes-eq0.true))
+    (λ c. simp (le-leb _ _ c.if-limit-ge1.true, eq-eqb _ _ c.before.if-modes-eq1.true, ne_eqb _ _ c.before.before.if-modes-eq0.false))
+    (λ c. simp (lt-leb _ _ c.if-limit-ge1.false, eq-eqb _ _ c.before.if-modes-eq1.true, ne_eqb _ _ c.before.before.if-modes-eq0.false))
+    (λ c. simp (ne_eqb _ _ c.if-modes-eq1.false, ne_eqb _ _ c.before.if-modes-eq0.false)))

@@ -8,6 +8,6 @@ pub unknown_ok_spec : {M : Type 1} → statement M
 unfolding unknown_ok
 unknown_ok_spec =
     tie.close (tie.spec
-    (λ c. simp (eq-eqb _ _ c.if1.true))
-    (λ c. simp (le-leb _ _ c.if2.true, ne_eqb _ _ c.before.if1.false))
-    (λ c. simp (lt-leb _ _ c.if2.false, ne_eqb _ _ c.before.if1.false)))
+    (λ c. simp (eq-eqb _ _ c.if-k-eq0.true))
+    (λ c. simp (le-leb _ _ c.if-k-ge-UNKNOWN_LEAST.true, ne_eqb _ _ c.before.if-k-eq0.false))
+    (λ c. simp (lt-leb _ _ c.if-k-ge-UNKNOWN_LEAST.false, ne_eqb _ _ c.before.if-k-eq0.false)))

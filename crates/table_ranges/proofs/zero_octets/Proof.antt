@@ -10,23 +10,23 @@ use Rattle.table_ranges.proofs.Zeros.{zeros_one_more}
 use Rattle.table_ranges.proofs.zero_octets.Statement.{statement}
 use Rattle.table_ranges.proofs.zero_octets.Tie as tie
 
-abbrev invariant-loop : tie.invariant-loop
-invariant-loop t at n bits₀ i₀ bits i = (i ≤ n) × (eqb bits 0 ≡ zeros t at i)
+abbrev invariant-loop-i : tie.invariant-loop-i
+invariant-loop-i t at n bits₀ i₀ bits i = (i ≤ n) × (eqb bits 0 ≡ zeros t at i)
 
-abbrev decreases-loop : tie.decreases-loop
-decreases-loop t at n bits₀ i₀ bits i = n - i
+abbrev decreases-loop-i : tie.decreases-loop-i
+decreases-loop-i t at n bits₀ i₀ bits i = n - i
 
-returns : tie.Need-returns invariant-loop decreases-loop
+returns : tie.Need-returns invariant-loop-i decreases-loop-i
 returns c =
-    let e : c.before.loop.i ≡ c.before.before.args.n = omega arith in
-    rw e at c.before.loop.invariant.1
+    let e : c.before.loop-i.i ≡ c.before.before.args.n = omega arith in
+    rw e at c.before.loop-i.invariant.1
 
 pub zero_octets_spec : {M : Type 1} → statement M
 unfolding zeros every
 zero_octets_spec =
     tie.close (tie.spec
-    invariant-loop decreases-loop
+    invariant-loop-i decreases-loop-i
     (λ c. (search rules, refl))
     (λ c. search rules) (λ c. search rules) (λ c. search rules) (λ c. search rules)
-    (λ c. (search rules, zeros_one_more c.before.before.before.args.t.now c.before.before.before.args.at c.before.before.loop.i c.before.before.loop.bits c.before.before.loop.invariant.1))
+    (λ c. (search rules, zeros_one_more c.before.before.before.args.t.now c.before.before.before.args.at c.before.before.loop-i.i c.before.before.loop-i.bits c.before.before.loop-i.invariant.1))
     returns)

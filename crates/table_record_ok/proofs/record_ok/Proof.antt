@@ -10,6 +10,6 @@ unfolding record_ok
 record_ok_spec =
     tie.close (tie.spec
     (λ c. search rules) (λ c. search rules) (λ c. search rules) (λ c κs. search rules)
-    (λ c. rw (eq-eqb _ _ c.before.if1.true) c.zero_words.ensures)
+    (λ c. rw (eq-eqb _ _ c.before.if-t-at-eq0.true) c.zero_words.ensures)
     (λ c κs. search rules)
-    (λ c. rw (ne_eqb _ _ c.before.if1.false) c.live-ok.ensures))
+    (λ c. rw (ne_eqb _ _ c.before.if-t-at-eq0.false) c.live_ok.ensures))

@@ -8,5 +8,5 @@ pub carries_tidnew_spec : {M : Type 1} → statement M
 unfolding carries_tidnew
 carries_tidnew_spec =
     tie.close (tie.spec
-    (λ c. simp (eq-eqb _ _ c.if1.true))
-    (λ c. simp (ne_eqb _ _ c.if1.false)))
+    (λ c. simp (eq-eqb _ _ c.if-class-eq0.true))
+    (λ c. simp (ne_eqb _ _ c.if-class-eq0.false)))

@@ -8,4 +8,4 @@ pub distance_of_spec : {M : Type 1} → statement M
 distance_of_spec =
     tie.close (tie.spec
     (λ c κs. search rules)
-    (λ c. wraps c.wrapping-sub-u16.result c.before.args.tid c.before.args.last c.wrapping-sub-u16.ensures))
+    (λ c. wraps c.wrapping_sub_u16.result c.before.args.tid c.before.args.last c.wrapping_sub_u16.ensures))

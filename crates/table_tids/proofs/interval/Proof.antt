@@ -10,4 +10,4 @@ interval_spec =
     tie.close (tie.spec
     (λ c κs. search rules) (λ c. search rules) (λ c. search rules) (λ c. search rules) (λ c. search rules)
     (λ c. search rules)
-    (λ c. simp (← c.before.before.row_number.ensures.0)))
+    (λ c. simp (← c.before.before.row_number-c.ensures.0)))

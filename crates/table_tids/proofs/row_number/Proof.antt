@@ -6,5 +6,5 @@ use Rattle.table_tids.proofs.row_number.Tie as tie
 pub row_number_spec : {M : Type 1} → statement M
 row_number_spec =
     tie.close (tie.spec
-    (λ c. (simp (eq-eqb _ _ c.if1.true), search rules))
-    (λ c. (simp (ne_eqb _ _ c.if1.false), search rules)))
+    (λ c. (simp (eq-eqb _ _ c.if-class-eq1.true), search rules))
+    (λ c. (simp (ne_eqb _ _ c.if-class-eq1.false), search rules)))

@@ -9,8 +9,8 @@ pub tid_test_spec : {M : Type 1} → statement M
 unfolding test_of
 tid_test_spec =
     tie.close (tie.spec
-    (λ c. simp (eq-eqb _ _ c.if1.true))
+    (λ c. simp (eq-eqb _ _ c.if-cached-eq0.true))
     (λ c. search rules) (λ c κs. search rules)
-    (λ c. simp (le-leb _ _ c.if3.true, le-leb _ _ c.before.if2.true, ← c.before.before.distance-of.ensures, ne_eqb _ _ c.before.before.before.if1.false))
-    (λ c. simp (lt-leb _ _ c.if3.false, le-leb _ _ c.before.if2.true, ← c.before.before.distance-of.ensures, ne_eqb _ _ c.before.before.before.if1.false))
-    (λ c. simp (lt-leb _ _ c.if2.false, ← c.before.distance-of.ensures, ne_eqb _ _ c.before.before.if1.false)))
+    (λ c. simp (le-leb _ _ c.if-d-le16383.true, le-leb _ _ c.before.if-d-ge1.true, ← c.before.before.distance_of-d.ensures, ne_eqb _ _ c.before.before.before.if-cached-eq0.false))
+    (λ c. simp (lt-leb _ _ c.if-d-le16383.false, le-leb _ _ c.before.if-d-ge1.true, ← c.before.before.distance_of-d.ensures, ne_eqb _ _ c.before.before.before.if-cached-eq0.false))
+    (λ c. simp (lt-leb _ _ c.if-d-ge1.false, ← c.before.distance_of-d.ensures, ne_eqb _ _ c.before.before.if-cached-eq0.false)))
