@@ -13,7 +13,7 @@ import sweep
 CALLS = ("Request", "Answer", "Result", "Abort", "Receive", "Timer", "Fire")
 LAYERS = ("base_", "codec_ table_", "row_", "step_", "call_", "c_", "wtp", "law_ case_")
 LONG = 400
-SPECS = re.compile(r"^(?:unfoldable |pub )*use Rattle·(\w+?)(?:·specs)?\.specs\.(\w+)", re.M)
+SPECS = re.compile(r"^(?:unfoldable |pub )*use Rattle\.(\w+)\.specs\.(\w+)", re.M)
 DEMAND_3 = ("law_demand_3/specs/*.antt", "law_exported/specs/*.antt")
 STATEMENT = ("law_history/specs/Demand.antt", "law_history/specs/Start.antt", "law_exported/specs/Session.antt")
 CRATES = pathlib.Path("crates")
@@ -55,7 +55,7 @@ def layer(crate):
 def arrows():
     """Pairs of a crate and one that it is given by crates.txt and that stands in a higher layer. Laws and cases stand above all code."""
     found = []
-    for name, given in re.findall(r"^(\w+): (.+)$", pathlib.Path("crates.txt").read_text(), re.M):
+    for name, given in re.findall(r"^(\w+)(?: staticlib)?: (.+)$", pathlib.Path("crates.txt").read_text(), re.M):
         if layer(name) is not None:
             found += [(name, other) for other in given.split() if layer(other) is not None and layer(other) > layer(name)]
     yield "arrows against README's picture", len(found)
@@ -87,13 +87,14 @@ def edits():
 
 def rested_on(patterns):
     """All lines of these files and of the files of definitions that their use lines lead to, one after the other; types that are declared
-    in src (`specs.declared`) and what Rattle brings aren't followed."""
+    in src (`specs.declared`) and what Rattle brings (`Rattle.std`) aren't followed."""
     todo, found = [file for pattern in patterns for file in files(pattern)], {}
     while todo:
         file = todo.pop()
         if file not in found:
             found[file] = file.read_text()
-            todo += [CRATES / crate / "specs" / f"{name}.antt" for crate, name in SPECS.findall(found[file]) if name != "declared"]
+            used = [(CRATES / crate, name) for crate, name in SPECS.findall(found[file]) if name != "declared"]
+            todo += [crate / "specs" / f"{name}.antt" for crate, name in used if crate.is_dir()]
     return sum(text.count("\n") for text in found.values())
 
 

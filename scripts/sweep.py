@@ -6,7 +6,7 @@ In proofs/**/Proof.antt, the proofs of functions:
   needs     a need that has one clause of one line, and is cited once, as an argument of the proof's last
             declaration, goes there: `returns c = refl` becomes the argument `(λ c. refl)`. Where such
             needs have an `unfolding` line, the last declaration gets it; those with another list stay;
-  layout    the arguments of the last declaration are filled into lines; a `search needs` shares its line
+  layout    the arguments of the last declaration are filled into lines; a `search rules` shares its line
             with others, and any other answer has a line of its own, in the order of the code.
 In every file below proofs/:
   imports   names that neither the file nor a must-fail edit of it cites go; lines of one module become one line.
@@ -15,7 +15,7 @@ What stays as it is: statements, helper lemmas and `module _` sections; needs wi
 with a hole, with several lines or clauses, with another `unfolding` list, or cited anywhere else. So where a
 need has to keep its name (an inlined answer is refused, or is worth a word), write a comment above it.
 A file with a hole keeps the names it imports: goals are printed by them.
-A second run changes nothing. Layout is that of `rt fmt`. Prove the crates afterwards: `rt check NAME`.
+A second run changes nothing. Layout is that of `rt fmt`. Prove the crates afterwards: `rt check` in each one's folder.
 usage: scripts/sweep.py [--check] [CRATE..]   (without a name: every crate; --check: only says which files, and what in them would go)
 """
 import collections
@@ -29,7 +29,7 @@ WIDTH = 120
 PLACE = re.compile(r"-- src/\S+\.rt:\d+:\d+$")
 USE = re.compile(r"use (\S+?)(?:\.\{(.*)\}| as (\S+))?$")
 NEED = re.compile(r"(?:\((\S+) : ℕ\) →\s+)?(\S+)\.Need-(\S+)")
-SEARCH = re.compile(r"\(λ [^.]*\. search needs\)$")
+SEARCH = re.compile(r"\(λ [^.]*\. search rules\)$")
 
 
 def arguments_of(text):
@@ -192,14 +192,14 @@ class Imports:
 
     def __init__(self, text, hole, counts):
         self.names, self.hole, self.counts = cited(text), hole, counts
-        self.parts = {part for name in self.names for part in name.split("_")} | set(self.names)
+        self.parts = {part for name in self.names for part in name.split("◌")} | set(self.names)
         self.modules = {}  # the line of each module that is listed, and its names
 
     def used(self, name):
         name = name.split(" as ")[-1].strip("«» ")
         if self.hole or name in self.names:
             return True
-        return "_" in name and any(part in self.parts for part in name.split("_") if part)
+        return "◌" in name and any(part in self.parts for part in name.split("◌") if part)
 
     def stays(self, item):
         """Whether a use line stays; the names in it that aren't used go, and those of a module that was listed before go there."""

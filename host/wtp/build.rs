@@ -1,4 +1,4 @@
-//! Says where the proved library lies: `rt staticlib wtp` leaves it in the repository's target/staticlib.
+//! Says where the proved library lies: scripts/library.sh leaves it in the repository's target/staticlib.
 
 fn main() {
     let package = env!("CARGO_MANIFEST_DIR");

@@ -1,5 +1,6 @@
 // Lists of numbers in lent slices: one store loop for octets, one for words; and flags as numbers.
 #![tactic(auto)]
+
 ghost use Rattle.std.specs.Prelude.{◌≡◌, ◌+◌, ◌≤◌, ◌<◌, length};
 ghost use Rattle.base_lists.specs.Seq.{bit, put, part};
 

@@ -1,5 +1,6 @@
 // The numbers that a call gives back: refusals 1 to 11 of document 01, 15 of a salvage and 16 of the Reliable Data Service, and D1 to D7 of a malformed PDU.
 #![tactic(auto)]
+
 ghost use Rattle.std.specs.Prelude.{◌≡◌};
 ghost use Rattle.base_numbers.specs.Numbers.{number_of, code_of};
 

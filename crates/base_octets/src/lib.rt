@@ -1,5 +1,6 @@
 // Numbers of several octets in a lent slice, low octet first.
 #![tactic(auto)]
+
 ghost use Rattle.std.specs.Prelude.{◌≡◌, ◌+◌, ◌≤◌, ◌<◌, ◌^◌, length};
 ghost use Rattle.base_octets.specs.Octets.{num, gets, enc};
 

@@ -1,5 +1,6 @@
 // The TID with its top bit, as octets have it: one type for each direction (01, "TIDs").
 #![tactic(auto)]
+
 ghost use Rattle.std.specs.Prelude.{◌≡◌, ◌/◌, ◌%◌, ◌<◌};
 ghost use Rattle.base_tids.specs.Tids.{received_tid};
 

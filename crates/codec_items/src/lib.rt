@@ -1,5 +1,6 @@
 // Information items of a PDU (WAP-224, 8.4): one item, and the recursive walk.
 #![tactic(auto)]
+
 ghost use Rattle.std.specs.Prelude.{◌≡◌, ◌≤◌, ◌<◌, length};
 ghost use Rattle.codec_items.specs.Items.{item_of, item_at};
 ghost use Rattle.codec_items.specs.Info.{sought_by};

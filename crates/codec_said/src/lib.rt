@@ -1,5 +1,6 @@
 // The kind and the items that the 88 words of the C interface say.
 #![tactic(auto)]
+
 ghost use Rattle.std.specs.Prelude.{◌≡◌, ◌%◌, ◌≤◌, ◌<◌, length};
 ghost use Rattle.codec_said.specs.Said.{invoke_said, kind_said, item_said};
 
@@ -30,6 +31,7 @@ fn invoke_said(words: &[u64]) -> Kind
 }
 
 // The kind that words 0 to 14 say.
+#[tactic(auto, unfolding(crate::specs::Said::kind_said))]
 pub fn kind_said(words: &[u64]) -> Kind
     requires { 88 ≤ length words.now }
     ensures { result ≡ kind_said words.now }

@@ -1,5 +1,6 @@
 // Judging the words of a PDU to be written, in the order of the C interface.
 #![tactic(auto)]
+
 ghost use Rattle.std.specs.Prelude.{◌≡◌, ◌+◌, ◌≤◌, ◌<◌, min, length, ltb};
 ghost use Rattle.base_layout.specs.Layout.{datagram_bound};
 ghost use Rattle.codec_said.specs.Said.{word, kind_said, items_said, pdu_said};
@@ -34,6 +35,7 @@ fn places(count: u64) -> usize
 }
 
 // The length of the fixed header, up to 1,501.
+#[tactic(auto, unfolding(crate::specs::Length::header_said))]
 fn header_length(words: &[u64]) -> u64
     requires { 88 ≤ length words.now }
     ensures { result ≡ min (header_said words.now) 1501 }
@@ -77,6 +79,7 @@ fn longest(form: u64) -> u64
 }
 
 // The widest values of words 0 to 7 by the type, 0 where the type hasn't the word: type, GTR, TTR, RID, TID, version, TIDnew, U/P. There is no type 0.
+#[tactic(auto, using(crate::proofs::Types::untyped), unfolding(crate::specs::Widths::widths_of, base_lists::specs::Seq::tab, crate::specs::Widths::widths))]
 fn first_widths(t: u64) -> [u64; 8]
     requires { t < 8 }
     ensures { result ≡ widths_of t 0 }
@@ -94,6 +97,7 @@ fn first_widths(t: u64) -> [u64; 8]
 }
 
 // Of words 8 to 15: class, Tve/Tok, abort type, abort reason, packet number, Nack count, start of the Nack list, number of items.
+#[tactic(auto, using(crate::proofs::Types::untyped), unfolding(crate::specs::Widths::widths_of, base_lists::specs::Seq::tab, crate::specs::Widths::widths))]
 fn middle_widths(t: u64) -> [u64; 8]
     requires { t < 8 }
     ensures { result ≡ widths_of t 8 }
@@ -111,6 +115,7 @@ fn middle_widths(t: u64) -> [u64; 8]
 }
 
 // Of words 16 to 23: start and length of the user data; the first unknown item, which is passed over; the others are zero.
+#[tactic(auto, using(crate::proofs::Types::untyped), unfolding(crate::specs::Widths::widths_of, base_lists::specs::Seq::tab, crate::specs::Widths::widths))]
 fn last_widths(t: u64) -> [u64; 8]
     requires { t < 8 }
     ensures { result ≡ widths_of t 16 }
@@ -228,6 +233,7 @@ fn fit(words: &[u64], n: u64) -> bool
 }
 
 // D5 and D6.
+#[tactic(auto, unfolding(codec_encoding::specs::Write::kind_fault))]
 fn kind_fault(kind: Kind) -> Verdict
     ensures { result ≡ kind_fault kind }
 {

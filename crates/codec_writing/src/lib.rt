@@ -1,5 +1,6 @@
 // Writing a PDU from the words that the C interface has for it.
 #![tactic(auto)]
+
 ghost use Rattle.std.specs.Prelude.{◌≡◌, false, ◌+◌, ◌≤◌, length, take};
 ghost use Rattle.base_layout.specs.Layout.{datagram_bound};
 ghost use Rattle.base_lists.specs.Seq.{put};
@@ -66,6 +67,7 @@ fn put_said(out: &mut [u8], src: &[u8], words: &[u64], kind: Kind) -> usize
 }
 
 // What is given back for a kind and the length of its PDU.
+#[tactic(auto, unfolding(crate::specs::Writing::answer_of))]
 fn answer(kind: Kind, len: usize) -> Written
     ensures { result ≡ answer_of len kind }
 {

@@ -1,7 +1,7 @@
 -- What is told of a sound PDU's items is the first whose identity 8.4 doesn't have, by its octets. Assumes nothing.
 use Prim.Native.Nat.{ℕ, zero, suc, ◌+◌, ◌<◌, ◌≤◌}
 use native.Mathlib.Omega.{arith}
-use borrow.Author.Tests.{le-ltb, le-leb, lt-leb, ne_eqb, leb-true, leb-false}
+use borrow.Author.Tests.{le-ltb, le-leb, ne_eqb, leb-true, leb-false}
 use mathlib.Core.Path.{◌≡◌, refl, sym, ap, ◌∙◌}
 use mathlib.Core.List.{List}
 use mathlib.Core.Bool.{Bool, true, false}
@@ -25,8 +25,6 @@ use Rattle.codec_items.proofs.Forms.{item_forms, item_inside_holds}
 use Rattle.codec_items.proofs.Finds.{unknown_found}
 use Rattle.codec_items.proofs.FirstUnknown.{known, below_six}
 use Rattle.codec_pdu.specs.Pdu.{sound_of, unknown_of}
-use Rattle.codec_pdu.specs.declared.Pdu.{Pdu}
-use Rattle.codec_reading.specs.declared.Head.{Head}
 use Rattle.codec_reading.specs.Read.{type_of, head_of, pdu_of}
 use Rattle.codec_reading.specs.Brief.{items_at}
 use Rattle.codec_reading.proofs.ReadItems.{ItemsOf, read_items}

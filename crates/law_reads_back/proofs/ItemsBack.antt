@@ -82,7 +82,7 @@ walk_read s it (it₂ ∷ l) (suc k) pre rest read f a b =
 pub length_placed : (at : ℕ) (its : List Item) → length (items_placed at its) ≡ length its
 unfolding items_placed
 length_placed at [] = refl
-length_placed at (it ∷ l) = ap suc (length_placed _ l)
+length_placed at (it ∷ l) = ap suc (length_placed (at + (lead it.long + it.len)) l)
 
 -- m unused places after the first n
 drop_replicate : (n m : ℕ) (it : Item) → n ≤ m → drop n (replicate m it) ≡ replicate (m - n) it

@@ -1,5 +1,6 @@
-// The C interface of the Reliable Data Service (include/rds.h): words in and words out, over the proved crates.
+// The functions of the C interface of the Reliable Data Service (include/rds.h): words in and words out, over the proved crates. rds_c exports them.
 #![tactic(auto)]
+
 ghost use Rattle.std.specs.Prelude.{◌≡◌, ◌≤◌, length};
 ghost use Rattle.base_lists.specs.Seq.{put};
 ghost use Rattle.rds_lists.specs.Sizes.{fields_least, part_least};
@@ -24,8 +25,7 @@ fn is_on(flag: u64) -> bool
 }
 
 // Reads a frame into 100 words.
-#[unsafe(no_mangle)]
-pub extern "C" fn rds_read(frame: &[u8], from_network: u64, fields: &mut [u64]) -> u64
+pub fn rds_read(frame: &[u8], from_network: u64, fields: &mut [u64]) -> u64
     ensures { (result ≡ read_number_is fields_least frame.now from_network fields.old) × (fields.new ≡ fields_after frame.now from_network fields.old) }
 {
     if fields.len() < 100 {
@@ -41,8 +41,7 @@ pub extern "C" fn rds_read(frame: &[u8], from_network: u64, fields: &mut [u64]) 
 }
 
 // Judges a frame whole, and tells where the datagram lies in it, its ports and its number.
-#[unsafe(no_mangle)]
-pub extern "C" fn rds_take(frame: &[u8], from_network: u64, part: &mut [u64]) -> u64
+pub fn rds_take(frame: &[u8], from_network: u64, part: &mut [u64]) -> u64
     ensures { (result ≡ read_number_is part_least frame.now from_network part.old) × (part.new ≡ part_after frame.now from_network part.old) }
 {
     if part.len() < 8 {
@@ -71,8 +70,7 @@ fn store_put(answer: &mut [u64], len: usize, number: u64)
 }
 
 // Puts a datagram into a UI frame at the start of the output.
-#[unsafe(no_mangle)]
-pub extern "C" fn rds_put(
+pub fn rds_put(
     datagram: &[u8],
     ports: u64,
     source: u64,
@@ -106,8 +104,7 @@ fn store_written(answer: &mut [u64], len: usize)
 }
 
 // Writes the frame that 100 words say, its parts in the lent octets, at the start of the output.
-#[unsafe(no_mangle)]
-pub extern "C" fn rds_write(
+pub fn rds_write(
     fields: &[u64],
     bytes: &[u8],
     from_network: u64,
@@ -129,24 +126,21 @@ pub extern "C" fn rds_write(
 }
 
 // The octets of a port book.
-#[unsafe(no_mangle)]
-pub extern "C" fn rds_ports_bytes() -> u64
+pub fn rds_ports_bytes() -> u64
     ensures { result ≡ book_size }
 {
     rds_book::BOOK_SIZE as u64
 }
 
 // Makes a port book in which nothing is kept.
-#[unsafe(no_mangle)]
-pub extern "C" fn rds_ports_fresh(book: &mut [u8], network: u64, formats: u64) -> u64
+pub fn rds_ports_fresh(book: &mut [u8], network: u64, formats: u64) -> u64
     ensures { (result ≡ fresh_number book.old formats) × (book.new ≡ fresh_after book.old (is_on network) formats) }
 {
     rds_shown::fresh(book, is_on(network), formats)
 }
 
 // Asks the peer for a port.
-#[unsafe(no_mangle)]
-pub extern "C" fn rds_reserve(
+pub fn rds_reserve(
     book: &mut [u8],
     out: &mut [u8],
     answer: &mut [u64],
@@ -161,45 +155,35 @@ pub extern "C" fn rds_reserve(
 }
 
 // Gives a port back.
-#[unsafe(no_mangle)]
-pub extern "C" fn rds_release(book: &mut [u8], out: &mut [u8], answer: &mut [u64], own: u64) -> u64
+pub fn rds_release(book: &mut [u8], out: &mut [u8], answer: &mut [u64], own: u64) -> u64
     ensures { left result book.new out.new answer.new ≡ release_of book.old out.old answer.old own }
 {
     rds_ports::release(book, out, answer, own)
 }
 
 // Sends the outstanding command again.
-#[unsafe(no_mangle)]
-pub extern "C" fn rds_again(book: &[u8], out: &mut [u8], answer: &mut [u64]) -> u64
+pub fn rds_again(book: &[u8], out: &mut [u8], answer: &mut [u64]) -> u64
     ensures { left result book.now out.new answer.new ≡ again_of book.now out.old answer.old }
 {
     rds_ports::again(book, out, answer)
 }
 
 // Gives the outstanding command up.
-#[unsafe(no_mangle)]
-pub extern "C" fn rds_abandon(book: &mut [u8]) -> u64
+pub fn rds_abandon(book: &mut [u8]) -> u64
     ensures { (result ≡ abandon_number book.old) × (book.new ≡ abandon_after book.old) }
 {
     rds_ports::abandon(book)
 }
 
 // Takes a frame from the peer.
-#[unsafe(no_mangle)]
-pub extern "C" fn rds_receive(
-    book: &mut [u8],
-    out: &mut [u8],
-    answer: &mut [u64],
-    frame: &[u8],
-) -> u64
+pub fn rds_receive(book: &mut [u8], out: &mut [u8], answer: &mut [u64], frame: &[u8]) -> u64
     ensures { left result book.new out.new answer.new ≡ receive_of book.old out.old answer.old frame.now }
 {
     rds_receiving::receive(book, out, answer, frame)
 }
 
 // Tells what is kept of a port, or with 0 of the outstanding command.
-#[unsafe(no_mangle)]
-pub extern "C" fn rds_port(book: &[u8], port: u64, out: &mut [u8], answer: &mut [u64]) -> u64
+pub fn rds_port(book: &[u8], port: u64, out: &mut [u8], answer: &mut [u64]) -> u64
     ensures { left result book.now out.new answer.new ≡ port_of book.now out.old answer.old port }
 {
     rds_shown::port(book, out, answer, port)

@@ -1,5 +1,6 @@
 // The information field of MANAGE_PORT (TS 24.250, 5.4.2.6).
 #![tactic(auto)]
+
 ghost use Rattle.std.specs.Prelude.{◌≡◌, ◌+◌, ◌/◌, ◌≤◌, length, get_or, drop};
 ghost use Rattle.rds_body.specs.Body.{command_form, response_form, form_of, bitmap_of, optional_of, asking_of, answer_of, query_of, no_list, list_by, list_of, managed_of};
 
@@ -71,6 +72,7 @@ pub enum Optional {
     Wrong,
 }
 
+#[tactic(auto, unfolding(crate::specs::Body::command_form))]
 fn command_form(action: u8) -> Form
     ensures { result ≡ command_form action }
 {
@@ -86,6 +88,7 @@ fn command_form(action: u8) -> Form
     }
 }
 
+#[tactic(auto, unfolding(crate::specs::Body::response_form))]
 fn response_form(action: u8) -> Form
     ensures { result ≡ response_form action }
 {
@@ -202,6 +205,7 @@ fn answer_in(t: &[u8], action: u8) -> Body
 }
 
 // The command Query in t.
+#[tactic(auto, using(rds_lists::proofs::ListFacts::rest), unfolding(crate::specs::Body::query_of))]
 fn query_in(t: &[u8], action: u8) -> Body
     requires { 1 ≤ length t.now }
     ensures { result ≡ query_of t.now action }
@@ -276,6 +280,7 @@ fn listed(t: &[u8], at: usize, action: u8) -> Managed
 }
 
 // The information field t of MANAGE_PORT, whose place in the frame is `at`.
+#[tactic(auto, unfolding(crate::specs::Body::managed_of))]
 pub fn manage(t: &[u8], at: usize, response: bool) -> Managed
     requires { at + length t.now ≤ 1523 }
     ensures { result ≡ managed_of t.now at response }

@@ -1,8 +1,7 @@
 -- A datagram in a UI frame (RDS.md, section 6, `rds_put`; TS 24.250, 5.2.8).
-use Rattle.std.specs.Prelude.{ℕ, ◌+◌, ◌*◌, ◌%◌, List, [], ◌∷◌, ◌++◌, Bool, true, false, length, ltb, leb, eqb}
+use Rattle.std.specs.Prelude.{ℕ, ◌+◌, ◌*◌, ◌%◌, List, [], ◌∷◌, ◌++◌, Bool, false, length, ltb, leb, eqb}
 use Rattle.rds_lists.specs.Sizes.{frame_most}
 use Rattle.base_lists.specs.Seq.{pick, put}
-use Rattle.base_numbers.specs.declared.Refusal.{Refusal}
 use Rattle.base_numbers.specs.declared.Refusal.TheVariants.{WrongSize, WrongSetting, WrongLength}
 use Rattle.rds_datagram.specs.declared.Putting.{Putting}
 use Rattle.rds_datagram.specs.declared.Putting.TheVariants.{Length, Refused}

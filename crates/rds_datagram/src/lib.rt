@@ -1,5 +1,6 @@
 // A datagram into a UI frame (TS 24.250, 5.2.8).
 #![tactic(auto)]
+
 ghost use Rattle.std.specs.Prelude.{◌≡◌, ◌+◌, ◌≤◌, length};
 ghost use Rattle.base_lists.specs.Seq.{put};
 ghost use Rattle.rds_datagram.specs.Put.{fit_of, plan_of, head_octets, done, put_of};
@@ -55,6 +56,7 @@ fn putting_plan(len: usize, room: usize, ports: bool, fits: bool) -> Putting
 }
 
 // Stores the header of a UI frame; the place after it.
+#[tactic(auto, unfolding(crate::specs::Put::head_octets))]
 fn put_head(out: &mut [u8], ports: bool, source: u64, destination: u64, number: u64) -> usize
     requires { 2 ≤ length out.old }
     ensures { (result ≡ length (head_octets ports source destination number)) × (out.new ≡ put out.old 0 (head_octets ports source destination number)) }
@@ -73,6 +75,7 @@ fn put_head(out: &mut [u8], ports: bool, source: u64, destination: u64, number: 
 }
 
 // Puts a datagram into a UI frame at the start of the output.
+#[tactic(auto, using(base_lists::proofs::StoresAndParts::length_put, crate::proofs::Room::roomy, crate::proofs::Room::head_length, crate::proofs::Room::two_stores), unfolding(crate::specs::Put::put_of, crate::specs::Put::put_by))]
 pub fn put(
     datagram: &[u8],
     ports: bool,

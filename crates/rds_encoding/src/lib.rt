@@ -1,5 +1,6 @@
 // Storing a frame (TS 24.250, clause 5) into the output, its parts straight from the lent octets.
 #![tactic(auto)]
+
 ghost use Rattle.std.specs.Prelude.{◌≡◌, ◌+◌, ◌≤◌, length, take};
 ghost use Rattle.base_lists.specs.Seq.{bit, put};
 ghost use Rattle.rds_size.specs.Size.{entries_size};
@@ -13,6 +14,7 @@ use rds_pieces::Pieces;
 use rds_reading::Frame;
 
 // Stores the header; the place after it.
+#[tactic(auto, using(crate::proofs::Stores::two_stores, crate::proofs::Lengths::length_head, crate::proofs::Lengths::first_length), unfolding(crate::specs::Encoding::head_octets))]
 fn put_head(out: &mut [u8], head: Head, from_network: bool) -> usize
     requires { 3 ≤ length out.old }
     ensures { (result ≡ length (head_octets head from_network)) × (result ≤ 3) × (out.new ≡ put out.old 0 (head_octets head from_network)) }
@@ -28,6 +30,7 @@ fn put_head(out: &mut [u8], head: Head, from_network: bool) -> usize
 }
 
 // Stores an entry from `at` on; the place after it.
+#[tactic(auto, using(base_lists::proofs::StoresAndParts::length_part, crate::proofs::Stores::three_stores), unfolding(crate::specs::Encoding::entry_octets))]
 fn put_entry(out: &mut [u8], at: usize, bytes: &[u8], e: Entry, formats: bool) -> usize
     requires { (e.start + e.len ≤ length bytes.now) × (at + (1 + e.len + bit formats) ≤ length out.old) }
     ensures { (result ≡ at + (1 + e.len + bit formats)) × (out.new ≡ put out.old at (entry_octets bytes.now formats e)) }

@@ -2,9 +2,9 @@
 use mathlib.Core.Path.{◌≡◌, refl, sym, ap, ◌∙◌}
 use mathlib.Core.List.{List}
 use mathlib.Core.Bool.{Bool, true}
-use Prim.Native.Nat.{ℕ, zero, suc, ◌+◌, ◌≤◌}
+use Prim.Native.Nat.{ℕ, zero, suc, ◌+◌}
 use native.Mathlib.Omega.{arith}
-use lib.ListN.{length, set, drop, length-drop}
+use lib.ListN.{set, drop, length-drop}
 use Rattle.base_lists.proofs.StoresAndParts.{true_false}
 use Rattle.rds_entries.specs.declared.Entry.{Entry}
 use Rattle.rds_entries.specs.declared.Entries.{Entries}

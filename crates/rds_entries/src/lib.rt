@@ -1,5 +1,6 @@
 // Application IDs, and the entries of a list of ports (TS 24.250, 5.4.2.6.4 and 5.4.2.6.5): one entry, and the recursive walk.
 #![tactic(auto)]
+
 ghost use Rattle.std.specs.Prelude.{◌≡◌, ◌+◌, ◌≤◌, length};
 ghost use Rattle.rds_entries.specs.Entries.{application_length, entry_at, no_entries, walk_from};
 
@@ -101,6 +102,7 @@ pub fn none(whole: bool, end: usize) -> Entries
 }
 
 // The entries from s on, of which `left` are still to come after the first k, which are in `read`.
+#[tactic(auto, using(crate::proofs::Inside::entry_inside, rds_lists::proofs::ListFacts::rest, crate::proofs::WalkSteps::walk_none, crate::proofs::WalkSteps::walk_more))]
 pub fn walk(s: &[u8], at: usize, formats: bool, left: usize, k: usize, read: [Entry; 15]) -> Entries
     requires { (left + k ≤ 15) × (at + length s.now ≤ 1523) }
     ensures { result ≡ walk_from left k formats at s.now read }

@@ -10,7 +10,6 @@ use lib.Dec.{ltb, leb, eqb}
 use Rattle.base_lists.specs.Seq.{pick}
 use Rattle.rds_frame.specs.declared.Kind.{Kind}
 use Rattle.rds_frame.specs.declared.Kind.TheVariants.{Ui}
-use Rattle.rds_frame.specs.declared.Head.{Head}
 use Rattle.rds_frame.specs.Frame.{Inside, flag, kind_of, bad_head, ports_after, head_of}
 
 module _ (s : List ℕ) where

@@ -1,5 +1,6 @@
 // The header of a frame of the Reliable Data Service (TS 24.250, 5.2 to 5.4).
 #![tactic(auto)]
+
 ghost use Rattle.std.specs.Prelude.{◌≡◌, ◌≤◌};
 ghost use Rattle.rds_frame.specs.Frame.{commanded, answered, responds, sacked, u_kind, kind_of, bad_head, ports_after, head_of};
 
@@ -24,6 +25,7 @@ pub struct Head {
 }
 
 // Whether a U frame with this M is a command that there is.
+#[tactic(auto, unfolding(crate::specs::Frame::commanded))]
 fn is_command(m: u8) -> bool
     ensures { result ≡ commanded m }
 {
@@ -38,6 +40,7 @@ fn is_command(m: u8) -> bool
 }
 
 // Whether a U frame with this M is a response that there is.
+#[tactic(auto, unfolding(crate::specs::Frame::answered))]
 fn is_answer(m: u8) -> bool
     ensures { result ≡ answered m }
 {

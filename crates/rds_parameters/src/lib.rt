@@ -1,5 +1,6 @@
 // The items of SET_PARAMETERS (TS 24.250, 5.4.2.5): Type, Length, then Length octets, to the end.
 #![tactic(auto)]
+
 ghost use Rattle.std.specs.Prelude.{◌≡◌, ◌≤◌, length};
 ghost use Rattle.rds_parameters.specs.Parameters.{item_length, items_from};
 
@@ -24,6 +25,7 @@ fn item_length(s: &[u8]) -> usize
 }
 
 // Whether s is items to its end, of which at most `left` are still to come.
+#[tactic(auto, using(rds_lists::proofs::ListFacts::rest, crate::proofs::WalkSteps::items_none, crate::proofs::WalkSteps::items_more, crate::proofs::WalkSteps::items_empty))]
 pub fn all_items(s: &[u8], left: usize) -> bool
     ensures { result ≡ items_from left s.now }
 {

@@ -1,5 +1,6 @@
 // The octets of a frame to be written (TS 24.250, clause 5): those of the header, and the pieces of a body. Spare bits are 0.
 #![tactic(auto)]
+
 ghost use Rattle.std.specs.Prelude.{◌≡◌, ◌≤◌};
 ghost use Rattle.rds_pieces.specs.Octets.{ports_octet, kind_octets, kind_length, fixed_of, bitmap_octets, asking_pieces, answer_pieces, query_pieces, list_pieces, pieces_of};
 
@@ -27,6 +28,7 @@ pub fn ports_octet(source: u8, destination: u8) -> u8
 }
 
 // Octets 1 and 2 of a header; a UI frame has the first alone.
+#[tactic(auto, unfolding(crate::specs::Octets::kind_octets))]
 pub fn kind_octets(kind: Kind, ads: bool, from_network: bool) -> [u8; 2]
     ensures { result ≡ kind_octets kind ads from_network }
 {
@@ -44,6 +46,7 @@ pub fn kind_octets(kind: Kind, ads: bool, from_network: bool) -> [u8; 2]
 }
 
 // How many of them there are.
+#[tactic(auto, unfolding(crate::specs::Octets::kind_length))]
 pub fn kind_length(kind: Kind) -> usize
     ensures { (result ≡ kind_length kind) × (result ≤ 2) }
 {
@@ -132,6 +135,7 @@ fn listed(action: u8, some: bool, ports: u16, count: u8) -> Pieces
 }
 
 // The pieces of a body.
+#[tactic(auto, unfolding(crate::specs::Octets::pieces_of))]
 pub fn in_pieces(body: Body) -> Pieces
     ensures { result ≡ pieces_of body }
 {

@@ -1,5 +1,6 @@
 // Reading a frame of the Reliable Data Service (TS 24.250, clause 5).
 #![tactic(auto)]
+
 ghost use Rattle.std.specs.Prelude.{◌≡◌, ◌-◌, ◌≤◌, length, drop};
 ghost use Rattle.rds_reading.specs.Read.{empty_of, items_of, manage_of, u_body, body_by, body_after, frame_of, sound_body};
 
@@ -67,6 +68,7 @@ fn manage(s: &[u8], at: usize, ads: bool, response: bool) -> Managed
 }
 
 // The body of a U frame from `at` on.
+#[tactic(auto, unfolding(crate::specs::Read::u_body))]
 fn u_body(s: &[u8], at: usize, ads: bool, m: u8, response: bool) -> Managed
     requires { (at ≤ length s.now) × (length s.now ≤ 1523) }
     ensures { result ≡ u_body s.now at ads m response }
@@ -82,6 +84,7 @@ fn u_body(s: &[u8], at: usize, ads: bool, m: u8, response: bool) -> Managed
 }
 
 // The body that follows a header.
+#[tactic(auto, unfolding(crate::specs::Read::body_by))]
 fn body_of(s: &[u8], at: usize, ads: bool, kind: Kind) -> Managed
     requires { (at ≤ length s.now) × (length s.now ≤ 1523) }
     ensures { result ≡ body_by s.now at ads kind }

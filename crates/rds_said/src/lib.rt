@@ -1,5 +1,6 @@
 // The frame that the 100 words of the C interface say, its values cut to their places.
 #![tactic(auto)]
+
 ghost use Rattle.std.specs.Prelude.{◌≡◌, ◌%◌, ◌≤◌, ◌<◌, length};
 ghost use Rattle.rds_said.specs.Said.{kind_said, head_said, format_said, ports_said, asking_said, manage_said, information_said, u_said, body_said, entry_said, list_said, entries_said, frame_said};
 
@@ -23,6 +24,7 @@ fn three_bits(x: u64) -> u8
 }
 
 // The kind that words 0 to 10 say.
+#[tactic(auto, using(crate::proofs::ByKind::said_i, crate::proofs::ByKind::said_s, crate::proofs::ByKind::said_ui, crate::proofs::ByKind::said_u), unfolding(crate::specs::Said::kind_said))]
 fn kind_said(words: &[u64]) -> Kind
     requires { 100 ≤ length words.now }
     ensures { result ≡ kind_said words.now }
@@ -106,6 +108,7 @@ fn asking_said(words: &[u64], action: u8) -> Body
 }
 
 // The body of MANAGE_PORT that words 13 to 22 say.
+#[tactic(auto, unfolding(crate::specs::Said::manage_said))]
 fn manage_said(words: &[u64], response: bool) -> Body
     requires { 100 ≤ length words.now }
     ensures { result ≡ manage_said words.now response }
@@ -147,6 +150,7 @@ fn information_said(words: &[u64]) -> Body
 }
 
 // The body of a U frame; that of MANAGE_PORT has no ports in the header.
+#[tactic(auto, unfolding(crate::specs::Said::u_said))]
 fn u_said(words: &[u64], m: u8, response: bool, ads: bool) -> Body
     requires { 100 ≤ length words.now }
     ensures { result ≡ u_said words.now m response ads }
@@ -165,6 +169,7 @@ fn u_said(words: &[u64], m: u8, response: bool, ads: bool) -> Body
 }
 
 // The body that words 11 to 22 say, by the kind.
+#[tactic(auto, unfolding(crate::specs::Said::body_said))]
 fn body_said(words: &[u64], kind: Kind, ads: bool) -> Body
     requires { 100 ≤ length words.now }
     ensures { result ≡ body_said words.now ads kind }
@@ -219,6 +224,7 @@ fn list_said(words: &[u64], count: usize, formats: bool) -> [Entry; 15]
 }
 
 // The entries of a body: only a list has any.
+#[tactic(auto, unfolding(crate::specs::Said::entries_said))]
 fn entries_said(words: &[u64], body: Body) -> [Entry; 15]
     requires { 100 ≤ length words.now }
     ensures { result ≡ entries_said words.now body }

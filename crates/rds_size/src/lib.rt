@@ -1,5 +1,6 @@
 // How long the body of a frame to be written is, its parts in lent octets; over 1,520 where no frame has such a body.
 #![tactic(auto)]
+
 ghost use Rattle.std.specs.Prelude.{◌≡◌, ◌≤◌};
 ghost use Rattle.rds_size.specs.Size.{inside, is_application, information_size, asking_size, entry_size, entries_size, list_size, body_size};
 
@@ -108,6 +109,7 @@ fn list_size(bytes: &[u8], list: [Entry; 15], action: u8, some: bool, count: u8)
 }
 
 // The size of a body; with `items` its information is that of SET_PARAMETERS.
+#[tactic(auto, unfolding(crate::specs::Size::body_size))]
 pub fn body_size(bytes: &[u8], body: Body, list: [Entry; 15], items: bool) -> usize
     ensures { (result ≡ body_size bytes.now list items body) × (result ≤ 22818) }
 {

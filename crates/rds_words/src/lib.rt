@@ -1,5 +1,6 @@
 // The words that the C interface has for a frame: 100 for all of it, 8 for what is taken of it.
 #![tactic(auto)]
+
 ghost use Rattle.std.specs.Prelude.{◌≡◌, ◌≤◌, length};
 ghost use Rattle.base_lists.specs.Seq.{put};
 ghost use Rattle.rds_words.specs.Words.{head_words, body_words, entry_words, entries_words, list_words, words_of, part_words};
@@ -11,6 +12,7 @@ use rds_frame::{Head, Kind};
 use rds_reading::Frame;
 
 // Words 0 to 10: the kind, ADS and the ports, A, N(S), N(R), R, N(U), M, and 1 for a response.
+#[tactic(auto, unfolding(crate::specs::Words::head_words, crate::specs::Words::kind_words))]
 fn head_words(head: Head) -> [u64; 11]
     ensures { result ≡ head_words head }
 {
@@ -37,6 +39,7 @@ fn head_words(head: Head) -> [u64; 11]
 }
 
 // Words 11 to 23: start and length of the information, Action, Status, the ports of the body, start and length of the Application ID, format, bitmap, number of entries, zero.
+#[tactic(auto, unfolding(crate::specs::Words::body_words))]
 fn body_words(body: Body) -> [u64; 13]
     ensures { result ≡ body_words body }
 {
@@ -187,6 +190,7 @@ pub fn store_fields(fields: &mut [u64], f: Frame)
 }
 
 // What is taken of a sound frame whose information has `len` octets: kind, start and length of a datagram, ADS, ports, number, zero.
+#[tactic(auto, unfolding(crate::specs::Words::part_words, crate::specs::Words::part_by))]
 pub fn part_words(head: Head, len: usize) -> [u64; 8]
     ensures { result ≡ part_words head len }
 {

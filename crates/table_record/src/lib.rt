@@ -1,5 +1,6 @@
 // A record: its types, and its octets.
 #![tactic(auto)]
+
 ghost use Rattle.std.specs.Prelude.{◌≡◌, ◌+◌, ◌*◌, ◌≤◌, ◌<◌, length};
 ghost use Rattle.base_layout.specs.Layout.{fields_size, tid_count};
 ghost use Rattle.table_record.specs.Record.{role_of, class_of, state_number, state_of, flags_of, sent_most, decoded, octets_of, send_tid, rcv_tid};

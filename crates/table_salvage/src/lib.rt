@@ -1,5 +1,6 @@
 // Tables after a brown-out (02, L12): each place is judged by the test of a record that the well-formed test runs, then by its name; what can't stay is zeroed and listed.
 #![tactic(auto)]
+
 ghost use Rattle.std.specs.Prelude.{◌≡◌, true, ◌+◌, ◌*◌, ◌≤◌, length, replicate};
 ghost use Rattle.base_layout.specs.Layout.{header_size, record_size};
 ghost use Rattle.base_lists.specs.Seq.{put};
@@ -37,6 +38,7 @@ pub fn reason_of(finding: Finding) -> u64
 }
 
 // Whether record i is live and shares role, peer and TID with a live one of a lower place.
+#[tactic(auto, unfolding(crate::specs::Salvage::shares_name))]
 fn shares_name(t: &[u8], i: usize) -> bool
     requires { header_size + i * record_size + record_size ≤ length t.now }
     ensures { result ≡ shares_name t.now i }
@@ -51,6 +53,7 @@ fn shares_name(t: &[u8], i: usize) -> bool
     table_finding::is_found(lower)
 }
 
+#[tactic(auto, unfolding(crate::specs::Salvage::finding_at))]
 fn finding_at(t: &[u8], i: usize) -> Finding
     requires { header_size + i * record_size + record_size ≤ length t.now }
     ensures { result ≡ finding_at t.now i }
@@ -121,6 +124,7 @@ fn salvage_all(t: &mut [u8], list: &mut [u64])
 }
 
 // Makes a damaged table well formed, and lists what it changed.
+#[tactic(auto, unfolding(crate::specs::Salvage::salvage_number, crate::specs::Salvage::table_salvaged, crate::specs::Salvage::list_salvaged))]
 pub fn salvage(t: &mut [u8], list: &mut [u64]) -> u64
     ensures { (result ≡ salvage_number t.old list.old) × (t.new ≡ table_salvaged t.old list.old) × (list.new ≡ list_salvaged t.old list.old) }
 {

@@ -1,5 +1,6 @@
-// The C interface (include/wtp.h): words in and words out, over the proved calls.
+// The functions of the C interface (include/wtp.h): words in and words out, over the proved calls. wtp_c exports them.
 #![tactic(auto)]
+
 ghost use Rattle.std.specs.Prelude.{◌≡◌, [], length, ltb};
 ghost use Rattle.base_layout.specs.Layout.{answer_size};
 ghost use Rattle.step_outcome.specs.Carry.{lent};
@@ -14,64 +15,56 @@ ghost use Rattle.wtp.specs.Engine.{called, called_by};
 use base_numbers::Refusal;
 
 // The bytes of a table for 1 to 48 records, else 0.
-#[unsafe(no_mangle)]
-pub extern "C" fn wtp_table_bytes(records: u64) -> u64
+pub fn wtp_table_bytes(records: u64) -> u64
     ensures { result ≡ table_bytes records }
 {
     table_fresh::table_bytes(records)
 }
 
 // Makes a table fresh.
-#[unsafe(no_mangle)]
-pub extern "C" fn wtp_fresh(table: &mut [u8], settings: &[u64], first_tid: u64) -> u64
+pub fn wtp_fresh(table: &mut [u8], settings: &[u64], first_tid: u64) -> u64
     ensures { (result ≡ fresh_number (fresh_answer (length table.old) settings.now first_tid)) × (table.new ≡ table_after_fresh (fresh_answer (length table.old) settings.now first_tid) table.old settings.now first_tid) }
 {
     c_codec::make_fresh(table, settings, first_tid)
 }
 
 // Reads a PDU into 88 words.
-#[unsafe(no_mangle)]
-pub extern "C" fn wtp_read(octets: &[u8], fields: &mut [u64]) -> u64
+pub fn wtp_read(octets: &[u8], fields: &mut [u64]) -> u64
     ensures { (result ≡ read_number_is octets.now fields.old) × (fields.new ≡ fields_after octets.now fields.old) }
 {
     c_codec::read(octets, fields)
 }
 
 // Writes the PDU that 88 words say, whose parts lie in `bytes`, at the start of the output.
-#[unsafe(no_mangle)]
-pub extern "C" fn wtp_write(fields: &[u64], bytes: &[u8], out: &mut [u8], answer: &mut [u64]) -> u64
+pub fn wtp_write(fields: &[u64], bytes: &[u8], out: &mut [u8], answer: &mut [u64]) -> u64
     ensures { (result ≡ write_number fields.now bytes.now out.old answer.old) × (out.new ≡ write_output fields.now bytes.now out.old answer.old) × (answer.new ≡ write_answer fields.now bytes.now out.old answer.old) }
 {
     c_codec::write(fields, bytes, out, answer)
 }
 
 // Separates a datagram: start and length of its k-th PDU, and how many there are.
-#[unsafe(no_mangle)]
-pub extern "C" fn wtp_separate(datagram: &[u8], k: u64, part: &mut [u64]) -> u64
+pub fn wtp_separate(datagram: &[u8], k: u64, part: &mut [u64]) -> u64
     ensures { (result ≡ separate_number datagram.now k part.old) × (part.new ≡ part_after datagram.now k part.old) }
 {
     c_codec::separate(datagram, k, part)
 }
 
 // Joins PDUs of these lengths, one after the other in `bytes`, to a datagram at the start of the output.
-#[unsafe(no_mangle)]
-pub extern "C" fn wtp_join(bytes: &[u8], lengths: &[u64], out: &mut [u8], answer: &mut [u64]) -> u64
+pub fn wtp_join(bytes: &[u8], lengths: &[u64], out: &mut [u8], answer: &mut [u64]) -> u64
     ensures { (result ≡ join_number bytes.now lengths.now out.old answer.old) × (out.new ≡ join_output bytes.now lengths.now out.old answer.old) × (answer.new ≡ join_answer bytes.now lengths.now out.old answer.old) }
 {
     c_codec::join(bytes, lengths, out, answer)
 }
 
 // Reads the k-th PDU of a datagram into 88 words.
-#[unsafe(no_mangle)]
-pub extern "C" fn wtp_read_part(datagram: &[u8], k: u64, fields: &mut [u64]) -> u64
+pub fn wtp_read_part(datagram: &[u8], k: u64, fields: &mut [u64]) -> u64
     ensures { (result ≡ read_part_number datagram.now k fields.old) × (fields.new ≡ read_part_fields datagram.now k fields.old) }
 {
     c_parts::read_part(datagram, k, fields)
 }
 
 // Copies the data of an answer's indication, a part of the datagram or of the store, to the start of the output.
-#[unsafe(no_mangle)]
-pub extern "C" fn wtp_data<'a>(
+pub fn wtp_data<'a>(
     datagram: &'a [u8],
     store: &'a [u8],
     answer: &[u64],
@@ -91,8 +84,7 @@ fn too_few(answer: &[u64]) -> bool
 }
 
 // A user's request of a class with its data.
-#[unsafe(no_mangle)]
-pub extern "C" fn wtp_request(
+pub fn wtp_request(
     table: &mut [u8],
     store: &mut [u8],
     out: &mut [u8],
@@ -123,8 +115,7 @@ pub extern "C" fn wtp_request(
 }
 
 // A user's answer with exit information.
-#[unsafe(no_mangle)]
-pub extern "C" fn wtp_answer(
+pub fn wtp_answer(
     table: &mut [u8],
     store: &mut [u8],
     out: &mut [u8],
@@ -145,8 +136,7 @@ pub extern "C" fn wtp_answer(
 }
 
 // A user's result with its data.
-#[unsafe(no_mangle)]
-pub extern "C" fn wtp_result(
+pub fn wtp_result(
     table: &mut [u8],
     store: &mut [u8],
     out: &mut [u8],
@@ -167,8 +157,7 @@ pub extern "C" fn wtp_result(
 }
 
 // A user's abort with its reason.
-#[unsafe(no_mangle)]
-pub extern "C" fn wtp_abort(
+pub fn wtp_abort(
     table: &mut [u8],
     store: &mut [u8],
     out: &mut [u8],
@@ -199,8 +188,7 @@ pub extern "C" fn wtp_abort(
 }
 
 // One PDU that came from a peer.
-#[unsafe(no_mangle)]
-pub extern "C" fn wtp_receive(
+pub fn wtp_receive(
     table: &mut [u8],
     store: &mut [u8],
     out: &mut [u8],
@@ -220,8 +208,7 @@ pub extern "C" fn wtp_receive(
 }
 
 // Fires one due record.
-#[unsafe(no_mangle)]
-pub extern "C" fn wtp_timer(
+pub fn wtp_timer(
     table: &mut [u8],
     store: &mut [u8],
     out: &mut [u8],
@@ -238,16 +225,14 @@ pub extern "C" fn wtp_timer(
 }
 
 // Tells the earliest deadline and its record in five words, and changes nothing else: it takes no time and is no entry of a history.
-#[unsafe(no_mangle)]
-pub extern "C" fn wtp_deadline(table: &[u8], due: &mut [u64]) -> u64
+pub fn wtp_deadline(table: &[u8], due: &mut [u64]) -> u64
     ensures { (result ≡ deadline_number table.now due.old) × (due.new ≡ due_after table.now due.old) }
 {
     call_deadline::deadline(table, due)
 }
 
 // Fires the record that is named, if it is due.
-#[unsafe(no_mangle)]
-pub extern "C" fn wtp_fire(
+pub fn wtp_fire(
     table: &mut [u8],
     store: &mut [u8],
     out: &mut [u8],
@@ -267,8 +252,7 @@ pub extern "C" fn wtp_fire(
 }
 
 // Makes a damaged table well formed: zeroes the places that can't stay, and lists them in 97 words with their reasons. It takes no time and is no entry of a history.
-#[unsafe(no_mangle)]
-pub extern "C" fn wtp_salvage(table: &mut [u8], list: &mut [u64]) -> u64
+pub fn wtp_salvage(table: &mut [u8], list: &mut [u64]) -> u64
     ensures { (result ≡ salvage_number table.old list.old) × (table.new ≡ table_salvaged table.old list.old) × (list.new ≡ list_salvaged table.old list.old) }
 {
     table_salvage::salvage(table, list)

@@ -6,7 +6,7 @@ use rds::{ffi, m, word};
 const HEADER: Header = Header {
     header: include_str!("../../../include/rds.h"),
     wrapper: include_str!("../src/ffi.rs"),
-    proved: include_str!("../../../crates/rds/src/lib.rt"),
+    proved: include_str!("../../../crates/rds_c/src/lib.rt"),
     prefix: "rds_",
 };
 

@@ -7,7 +7,7 @@ use wtp::{ffi, Damage, Refused};
 const HEADER: Header = Header {
     header: include_str!("../../../include/wtp.h"),
     wrapper: include_str!("../src/ffi.rs"),
-    proved: include_str!("../../../crates/wtp/src/lib.rt"),
+    proved: include_str!("../../../crates/wtp_c/src/lib.rt"),
     prefix: "wtp_",
 };
 

@@ -10,6 +10,6 @@ fit_spec =
     tie.close (tie.spec
     (λ c κs. search rules) (λ c. search rules) (λ c. search rules) (λ c κs. search rules) (λ c. search rules)
     (λ c. search rules) (λ c κs. search rules)
-    (λ c. simp (← c.lies-inside2.ensures, c.before.before.before.if2.true, ← c.before.before.before.before.lies-inside.ensures, c.before.before.before.before.before.before.before.if1.true, ← c.before.before.before.before.before.before.before.before.none-too-wide.ensures))
-    (λ c. simp (c.if2.false, ← c.before.lies-inside.ensures, c.before.before.before.before.if1.true, ← c.before.before.before.before.before.none-too-wide.ensures))
-    (λ c. simp (c.if1.false, ← c.before.none-too-wide.ensures)))
+    (λ c. simp (← c.lies_inside-then-lies_inside.ensures, c.before.before.before.if-lies_inside.true, ← c.before.before.before.before.lies_inside.ensures, c.before.before.before.before.before.before.before.if-none_too_wide.true, ← c.before.before.before.before.before.before.before.before.none_too_wide.ensures))
+    (λ c. simp (c.if-lies_inside.false, ← c.before.lies_inside.ensures, c.before.before.before.before.if-none_too_wide.true, ← c.before.before.before.before.before.none_too_wide.ensures))
+    (λ c. simp (c.if-none_too_wide.false, ← c.before.none_too_wide.ensures)))

@@ -6,5 +6,5 @@ use Rattle.codec_verdict.proofs.form_length.Tie as tie
 pub form_length_spec : {M : Type 1} → statement M
 form_length_spec =
     tie.close (tie.spec
-    (λ c. simp (eq-eqb _ _ c.if1.true))
-    (λ c. simp (ne_eqb _ _ c.if1.false)))
+    (λ c. simp (eq-eqb _ _ c.if-form-eq0.true))
+    (λ c. simp (ne_eqb _ _ c.if-form-eq0.false)))

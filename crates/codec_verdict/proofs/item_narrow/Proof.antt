@@ -13,5 +13,5 @@ item_narrow_spec =
     (λ c. search rules) (λ c. search rules) (λ c. search rules) (λ c. search rules) (λ c. search rules)
     (λ c. search rules) (λ c κs. search rules) (λ c. search rules) (λ c κs. search rules) (λ c. search rules)
     (λ c κs. search rules)
-    (λ c. c.row-narrow.ensures ∙ simp (c.before.before.longest.ensures, lt-ltb _ _ c.before.before.before.before.if1.true))
-    (λ c. c.row-narrow2.ensures ∙ simp (le-ltb _ _ c.before.before.if1.false)))
+    (λ c. c.row_narrow.ensures ∙ simp (c.before.before.longest.ensures, lt-ltb _ _ c.before.before.before.before.if-k-words.true))
+    (λ c. c.row_narrow-else-k-words.ensures ∙ simp (le-ltb _ _ c.before.before.if-k-words.false)))

@@ -6,5 +6,5 @@ use Rattle.codec_verdict.proofs.lies_inside.Tie as tie
 pub lies_inside_spec : {M : Type 1} → statement M
 lies_inside_spec =
     tie.close (tie.spec
-    (λ c. inside_after _ _ _ c.if1.true)
-    (λ c. not_inside _ _ _ c.if1.false))
+    (λ c. inside_after _ _ _ c.if-start-n.true)
+    (λ c. not_inside _ _ _ c.if-start-n.false))

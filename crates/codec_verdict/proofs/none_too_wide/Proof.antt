@@ -8,5 +8,5 @@ pub none_too_wide_spec : {M : Type 1} → statement M
 none_too_wide_spec =
     tie.close (tie.spec
     (λ c κs. search rules) (λ c κs. search rules)
-    (λ c. rw (← by_rows c.before.before.before.before.args.words.now, ← c.before.before.head_narrow_holds.ensures, c.before.if1.true) c.items-narrow.ensures)
-    (λ c. rw (← by_rows c.before.before.before.args.words.now, ← c.before.head_narrow_holds.ensures, c.if1.false)))
+    (λ c. rw (← by_rows c.before.before.before.before.args.words.now, ← c.before.before.head_narrow.ensures, c.before.if-head_narrow.true) c.items_narrow.ensures)
+    (λ c. rw (← by_rows c.before.before.before.args.words.now, ← c.before.head_narrow.ensures, c.if-head_narrow.false)))

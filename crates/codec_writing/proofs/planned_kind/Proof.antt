@@ -10,7 +10,7 @@ pub planned_kind_spec : {M : Type 1} → statement M
 unfolding plan_of blank_pdu
 planned_kind_spec =
     tie.close (tie.spec
-    (λ c. rw (lt-ltb _ _ c.if1.true))
-    (λ c. rw (le-ltb _ _ c.before.if1.false, lt-ltb _ _ c.if2.true))
+    (λ c. rw (lt-ltb _ _ c.if-fields-lt88.true))
+    (λ c. rw (le-ltb _ _ c.before.if-fields-lt88.false, lt-ltb _ _ c.if-room-lt-DATAGRAM_BOUND.true))
     (λ c κs. search rules)
-    (λ c. rw (le-ltb _ _ c.before.before.if1.false, le-ltb _ _ c.before.if2.false) c.judged_kind.ensures))
+    (λ c. rw (le-ltb _ _ c.before.before.if-fields-lt88.false, le-ltb _ _ c.before.if-room-lt-DATAGRAM_BOUND.false) c.judged_kind.ensures))

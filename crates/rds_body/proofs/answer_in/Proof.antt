@@ -10,10 +10,10 @@ unfolding answer_of
 answer_in_spec =
     tie.close (tie.spec
     (λ c. search rules) (λ c. search rules)
-    (λ c. simp (lt-ltb _ _ c.before.if3.true, lt-leb _ _ c.before.if3.true, eq-eqb _ _ c.before.before.before.if2.true, eq-eqb _ _ c.before.before.before.before.if1.true))
-    (λ c. simp (le-ltb _ _ c.if3.false, le-leb _ _ c.if3.false, eq-eqb _ _ c.before.before.if2.true, eq-eqb _ _ c.before.before.before.if1.true))
-    (λ c. simp (ne_eqb _ _ c.if2.false, eq-eqb _ _ c.before.if1.true))
+    (λ c. simp (lt-ltb _ _ c.before.if-status-lt4.true, lt-leb _ _ c.before.if-status-lt4.true, eq-eqb _ _ c.before.before.before.if-t-eq3.true, eq-eqb _ _ c.before.before.before.before.if-action-eq5.true))
+    (λ c. simp (le-ltb _ _ c.if-status-lt4.false, le-leb _ _ c.if-status-lt4.false, eq-eqb _ _ c.before.before.if-t-eq3.true, eq-eqb _ _ c.before.before.before.if-action-eq5.true))
+    (λ c. simp (ne_eqb _ _ c.if-t-eq3.false, eq-eqb _ _ c.before.if-action-eq5.true))
     (λ c. search rules)
-    (λ c. simp (lt-ltb _ _ c.if5.true, lt-leb _ _ c.if5.true, eq-eqb _ _ c.before.before.if4.true, ne_eqb _ _ c.before.before.before.if1.false))
-    (λ c. simp (le-ltb _ _ c.if5.false, le-leb _ _ c.if5.false, eq-eqb _ _ c.before.before.if4.true, ne_eqb _ _ c.before.before.before.if1.false))
-    (λ c. simp (ne_eqb _ _ c.if4.false, ne_eqb _ _ c.before.if1.false)))
+    (λ c. simp (lt-ltb _ _ c.if-status-lt4-2.true, lt-leb _ _ c.if-status-lt4-2.true, eq-eqb _ _ c.before.before.if-t-eq2.true, ne_eqb _ _ c.before.before.before.if-action-eq5.false))
+    (λ c. simp (le-ltb _ _ c.if-status-lt4-2.false, le-leb _ _ c.if-status-lt4-2.false, eq-eqb _ _ c.before.before.if-t-eq2.true, ne_eqb _ _ c.before.before.before.if-action-eq5.false))
+    (λ c. simp (ne_eqb _ _ c.if-t-eq2.false, ne_eqb _ _ c.before.if-action-eq5.false)))

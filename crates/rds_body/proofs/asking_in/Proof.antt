@@ -10,12 +10,12 @@ pub asking_in_spec : {M : Type 1} → statement M
 unfolding asking_of
 asking_in_spec =
     tie.close (tie.spec
-    (λ c. simp (lt-ltb _ _ c.if1.true, lt-leb _ _ c.if1.true))
+    (λ c. simp (lt-ltb _ _ c.if-t-lt2.true, lt-leb _ _ c.if-t-lt2.true))
     (λ c. search rules) (λ c. search rules) (λ c. search rules) (λ c. search rules) (λ c κs. search rules)
-    (λ c. simp (eq-eqb _ _ c.if2.true, ← (rw rest at c.before.application-length.ensures.0), le-ltb _ _ c.before.before.before.before.if1.false, le-leb _ _ c.before.before.before.before.if1.false))
+    (λ c. simp (eq-eqb _ _ c.if-len-eq0.true, ← (rw rest at c.before.application_length-len.ensures.0), le-ltb _ _ c.before.before.before.before.if-t-lt2.false, le-leb _ _ c.before.before.before.before.if-t-lt2.false))
     (λ c. search rules) (λ c. search rules) (λ c. search rules) (λ c. search rules)
-    (λ c. simp (eq-eqb _ _ c.before.if4.true, eq-eqb _ _ c.before.before.if3.true, ne_eqb _ _ c.before.before.before.if2.false, ← (rw rest at c.before.before.before.before.application-length.ensures.0), le-ltb _ _ c.before.before.before.before.before.before.before.if1.false, le-leb _ _ c.before.before.before.before.before.before.before.if1.false))
-    (λ c. simp (ne_eqb _ _ c.if4.false, eq-eqb _ _ c.before.if3.true, ne_eqb _ _ c.before.before.if2.false, ← (rw rest at c.before.before.before.application-length.ensures.0), le-ltb _ _ c.before.before.before.before.before.before.if1.false, le-leb _ _ c.before.before.before.before.before.before.if1.false))
+    (λ c. simp (eq-eqb _ _ c.before.if-t-end.true, eq-eqb _ _ c.before.before.if-action-eq5.true, ne_eqb _ _ c.before.before.before.if-len-eq0.false, ← (rw rest at c.before.before.before.before.application_length-len.ensures.0), le-ltb _ _ c.before.before.before.before.before.before.before.if-t-lt2.false, le-leb _ _ c.before.before.before.before.before.before.before.if-t-lt2.false))
+    (λ c. simp (ne_eqb _ _ c.if-t-end.false, eq-eqb _ _ c.before.if-action-eq5.true, ne_eqb _ _ c.before.before.if-len-eq0.false, ← (rw rest at c.before.before.before.application_length-len.ensures.0), le-ltb _ _ c.before.before.before.before.before.before.if-t-lt2.false, le-leb _ _ c.before.before.before.before.before.before.if-t-lt2.false))
     (λ c. search rules)
-    (λ c. simp (eq-eqb _ _ c.if5.true, ne_eqb _ _ c.before.if3.false, ne_eqb _ _ c.before.before.if2.false, ← (rw rest at c.before.before.before.application-length.ensures.0), le-ltb _ _ c.before.before.before.before.before.before.if1.false, le-leb _ _ c.before.before.before.before.before.before.if1.false))
-    (λ c. simp (ne_eqb _ _ c.if5.false, ne_eqb _ _ c.before.if3.false, ne_eqb _ _ c.before.before.if2.false, ← (rw rest at c.before.before.before.application-length.ensures.0), le-ltb _ _ c.before.before.before.before.before.before.if1.false, le-leb _ _ c.before.before.before.before.before.before.if1.false)))
+    (λ c. simp (eq-eqb _ _ c.if-t-end-2.true, ne_eqb _ _ c.before.if-action-eq5.false, ne_eqb _ _ c.before.before.if-len-eq0.false, ← (rw rest at c.before.before.before.application_length-len.ensures.0), le-ltb _ _ c.before.before.before.before.before.before.if-t-lt2.false, le-leb _ _ c.before.before.before.before.before.before.if-t-lt2.false))
+    (λ c. simp (ne_eqb _ _ c.if-t-end-2.false, ne_eqb _ _ c.before.if-action-eq5.false, ne_eqb _ _ c.before.before.if-len-eq0.false, ← (rw rest at c.before.before.before.application_length-len.ensures.0), le-ltb _ _ c.before.before.before.before.before.before.if-t-lt2.false, le-leb _ _ c.before.before.before.before.before.before.if-t-lt2.false)))

@@ -7,6 +7,6 @@ pub form_of_spec : {M : Type 1} → statement M
 form_of_spec =
     tie.close (tie.spec
     (λ c κs. search rules)
-    (λ c. simp (c.response-form.ensures, c.before.if1.true))
+    (λ c. simp (c.response_form.ensures, c.before.if-response.true))
     (λ c κs. search rules)
-    (λ c. simp (c.command-form.ensures, c.before.if1.false)))
+    (λ c. simp (c.command_form.ensures, c.before.if-response.false)))

@@ -6,4 +6,4 @@ use Rattle.rds_body.proofs.no_list.Tie as tie
 
 pub no_list_spec : {M : Type 1} → statement M
 unfolding no_list
-no_list_spec = tie.close (tie.spec (λ c κs. search rules) (λ c. simp c.before.none.ensures))
+no_list_spec = tie.close (tie.spec (λ c κs. search rules) (λ c. simp c.before.none-none.ensures))

@@ -9,7 +9,7 @@ pub optional_ports_spec : {M : Type 1} → statement M
 unfolding optional_of
 optional_ports_spec =
     tie.close (tie.spec
-    (λ c. simp (eq-eqb _ _ c.if1.true))
+    (λ c. simp (eq-eqb _ _ c.if-s-eq0.true))
     (λ c κs. search rules)
-    (λ c. simp (c.bitmap.ensures, eq-eqb _ _ c.before.if2.true, ne_eqb _ _ c.before.before.if1.false))
-    (λ c. simp (ne_eqb _ _ c.if2.false, ne_eqb _ _ c.before.if1.false)))
+    (λ c. simp (c.bitmap.ensures, eq-eqb _ _ c.before.if-s-eq2.true, ne_eqb _ _ c.before.before.if-s-eq0.false))
+    (λ c. simp (ne_eqb _ _ c.if-s-eq2.false, ne_eqb _ _ c.before.if-s-eq0.false)))

@@ -8,8 +8,8 @@ pub fit_spec : {M : Type 1} → statement M
 unfolding fit_of
 fit_spec =
     tie.close (tie.spec
-    (λ c. simp (lt-ltb _ _ c.if1.true, lt-leb _ _ c.if1.true))
-    (λ c. simp (lt-ltb _ _ c.if3.true, lt-leb _ _ c.if3.true, c.before.if2.true, le-ltb _ _ c.before.before.if1.false, le-leb _ _ c.before.before.if1.false))
-    (λ c. simp (le-ltb _ _ c.if3.false, le-leb _ _ c.if3.false, c.before.if2.true, le-ltb _ _ c.before.before.if1.false, le-leb _ _ c.before.before.if1.false))
-    (λ c. simp (eq-eqb _ _ c.if4.true, c.before.if2.false, le-ltb _ _ c.before.before.if1.false, le-leb _ _ c.before.before.if1.false))
-    (λ c. simp (ne_eqb _ _ c.if4.false, c.before.if2.false, le-ltb _ _ c.before.before.if1.false, le-leb _ _ c.before.before.if1.false)))
+    (λ c. simp (lt-ltb _ _ c.if-number-gt7.true, lt-leb _ _ c.if-number-gt7.true))
+    (λ c. simp (lt-ltb _ _ c.if-source-gt15.true, lt-leb _ _ c.if-source-gt15.true, c.before.if-ports.true, le-ltb _ _ c.before.before.if-number-gt7.false, le-leb _ _ c.before.before.if-number-gt7.false))
+    (λ c. simp (le-ltb _ _ c.if-source-gt15.false, le-leb _ _ c.if-source-gt15.false, c.before.if-ports.true, le-ltb _ _ c.before.before.if-number-gt7.false, le-leb _ _ c.before.before.if-number-gt7.false))
+    (λ c. simp (eq-eqb _ _ c.if-source-eq0.true, c.before.if-ports.false, le-ltb _ _ c.before.before.if-number-gt7.false, le-leb _ _ c.before.before.if-number-gt7.false))
+    (λ c. simp (ne_eqb _ _ c.if-source-eq0.false, c.before.if-ports.false, le-ltb _ _ c.before.before.if-number-gt7.false, le-leb _ _ c.before.before.if-number-gt7.false)))

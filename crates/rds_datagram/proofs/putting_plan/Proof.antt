@@ -9,11 +9,11 @@ pub putting_plan_spec : {M : Type 1} → statement M
 unfolding plan_of
 putting_plan_spec =
     tie.close (tie.spec
-    (λ c. simp (lt-ltb _ _ c.if1.true, lt-leb _ _ c.if1.true))
-    (λ c. simp (eq-eqb _ _ c.if3.true, c.before.if2.true, le-ltb _ _ c.before.before.if1.false, le-leb _ _ c.before.before.if1.false))
-    (λ c. simp (lt-ltb _ _ c.if4.true, lt-leb _ _ c.if4.true, ne_eqb _ _ c.before.if3.false, c.before.before.if2.true, le-ltb _ _ c.before.before.before.if1.false, le-leb _ _ c.before.before.before.if1.false))
+    (λ c. simp (lt-ltb _ _ c.if-room-lt1523.true, lt-leb _ _ c.if-room-lt1523.true))
+    (λ c. simp (eq-eqb _ _ c.if-len-eq0.true, c.before.if-fits.true, le-ltb _ _ c.before.before.if-room-lt1523.false, le-leb _ _ c.before.before.if-room-lt1523.false))
+    (λ c. simp (lt-ltb _ _ c.if-len-gt1500.true, lt-leb _ _ c.if-len-gt1500.true, ne_eqb _ _ c.before.if-len-eq0.false, c.before.before.if-fits.true, le-ltb _ _ c.before.before.before.if-room-lt1523.false, le-leb _ _ c.before.before.before.if-room-lt1523.false))
     (λ c. search rules)
-    (λ c. simp (c.if5.true, le-ltb _ _ c.before.if4.false, le-leb _ _ c.before.if4.false, ne_eqb _ _ c.before.before.if3.false, c.before.before.before.if2.true, le-ltb _ _ c.before.before.before.before.if1.false, le-leb _ _ c.before.before.before.before.if1.false))
+    (λ c. simp (c.if-ports.true, le-ltb _ _ c.before.if-len-gt1500.false, le-leb _ _ c.before.if-len-gt1500.false, ne_eqb _ _ c.before.before.if-len-eq0.false, c.before.before.before.if-fits.true, le-ltb _ _ c.before.before.before.before.if-room-lt1523.false, le-leb _ _ c.before.before.before.before.if-room-lt1523.false))
     (λ c. search rules)
-    (λ c. simp (c.if5.false, le-ltb _ _ c.before.if4.false, le-leb _ _ c.before.if4.false, ne_eqb _ _ c.before.before.if3.false, c.before.before.before.if2.true, le-ltb _ _ c.before.before.before.before.if1.false, le-leb _ _ c.before.before.before.before.if1.false))
-    (λ c. simp (c.if2.false, le-ltb _ _ c.before.if1.false, le-leb _ _ c.before.if1.false)))
+    (λ c. simp (c.if-ports.false, le-ltb _ _ c.before.if-len-gt1500.false, le-leb _ _ c.before.if-len-gt1500.false, ne_eqb _ _ c.before.before.if-len-eq0.false, c.before.before.before.if-fits.true, le-ltb _ _ c.before.before.before.before.if-room-lt1523.false, le-leb _ _ c.before.before.before.before.if-room-lt1523.false))
+    (λ c. simp (c.if-fits.false, le-ltb _ _ c.before.if-room-lt1523.false, le-leb _ _ c.before.if-room-lt1523.false)))

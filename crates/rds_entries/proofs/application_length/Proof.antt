@@ -9,7 +9,7 @@ pub application_length_spec : {M : Type 1} → statement M
 unfolding application_length
 application_length_spec =
     tie.close (tie.spec
-    (λ c. (simp (lt-ltb _ _ c.if1.true, lt-leb _ _ c.if1.true), search rules, search rules))
+    (λ c. (simp (lt-ltb _ _ c.if-s-lt17.true, lt-leb _ _ c.if-s-lt17.true), search rules, search rules))
     (λ c. search rules) (λ c κs. search rules) (λ c. search rules)
-    (λ c. (simp (lt-ltb _ _ c.if2.true, lt-leb _ _ c.if2.true, ← c.before.size.ensures.0, le-ltb _ _ c.before.before.before.if1.false, le-leb _ _ c.before.before.before.if1.false), search rules, search rules))
-    (λ c. (simp (le-ltb _ _ c.if2.false, le-leb _ _ c.if2.false, ← c.before.size.ensures.0, le-ltb _ _ c.before.before.before.if1.false, le-leb _ _ c.before.before.before.if1.false), search rules, search rules)))
+    (λ c. (simp (lt-ltb _ _ c.if-s-n.true, lt-leb _ _ c.if-s-n.true, ← c.before.size-n.ensures.0, le-ltb _ _ c.before.before.before.if-s-lt17.false, le-leb _ _ c.before.before.before.if-s-lt17.false), search rules, search rules))
+    (λ c. (simp (le-ltb _ _ c.if-s-n.false, le-leb _ _ c.if-s-n.false, ← c.before.size-n.ensures.0, le-ltb _ _ c.before.before.before.if-s-lt17.false, le-leb _ _ c.before.before.before.if-s-lt17.false), search rules, search rules)))

@@ -10,12 +10,12 @@ pub entry_at_spec : {M : Type 1} → statement M
 unfolding entry_at
 entry_at_spec =
     tie.close (tie.spec
-    (λ c. simp (eq-eqb _ _ c.if1.true))
+    (λ c. simp (eq-eqb _ _ c.if-s-eq0.true))
     (λ c. search rules) (λ c. search rules) (λ c. search rules) (λ c. search rules) (λ c κs. search rules)
-    (λ c. simp (eq-eqb _ _ c.if2.true, ← (rw rest at c.before.application-length.ensures.0), ne_eqb _ _ c.before.before.before.before.if1.false))
+    (λ c. simp (eq-eqb _ _ c.if-len-eq0.true, ← (rw rest at c.before.application_length-len.ensures.0), ne_eqb _ _ c.before.before.before.before.if-s-eq0.false))
     (λ c. search rules)
-    (λ c. simp (le-ltb _ _ c.if4.true, le-leb _ _ c.if4.true, c.before.if3.true, ne_eqb _ _ c.before.before.if2.false, ← (rw rest at c.before.before.before.application-length.ensures.0), ne_eqb _ _ c.before.before.before.before.before.before.if1.false))
+    (λ c. simp (le-ltb _ _ c.if-s-size.true, le-leb _ _ c.if-s-size.true, c.before.if-formats.true, ne_eqb _ _ c.before.before.if-len-eq0.false, ← (rw rest at c.before.before.before.application_length-len.ensures.0), ne_eqb _ _ c.before.before.before.before.before.before.if-s-eq0.false))
     (λ c. search rules) (λ c. search rules) (λ c. search rules)
-    (λ c. simp (lt-ltb _ _ c.before.if4.false, lt-leb _ _ c.before.if4.false, c.before.before.if3.true, ne_eqb _ _ c.before.before.before.if2.false, ← (rw rest at c.before.before.before.before.application-length.ensures.0), ne_eqb _ _ c.before.before.before.before.before.before.before.if1.false))
+    (λ c. simp (lt-ltb _ _ c.before.if-s-size.false, lt-leb _ _ c.before.if-s-size.false, c.before.before.if-formats.true, ne_eqb _ _ c.before.before.before.if-len-eq0.false, ← (rw rest at c.before.before.before.before.application_length-len.ensures.0), ne_eqb _ _ c.before.before.before.before.before.before.before.if-s-eq0.false))
     (λ c. search rules)
-    (λ c. simp (c.if3.false, ne_eqb _ _ c.before.if2.false, ← (rw rest at c.before.before.application-length.ensures.0), ne_eqb _ _ c.before.before.before.before.before.if1.false)))
+    (λ c. simp (c.if-formats.false, ne_eqb _ _ c.before.if-len-eq0.false, ← (rw rest at c.before.before.application_length-len.ensures.0), ne_eqb _ _ c.before.before.before.before.before.if-s-eq0.false)))

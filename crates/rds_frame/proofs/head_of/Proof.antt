@@ -10,12 +10,12 @@ unfolding head_of
 head_of_spec =
     tie.close (tie.spec
     (λ c κs. search rules)
-    (λ c. simp (c.bad-head.ensures, eq-eqb _ _ c.before.if1.true))
+    (λ c. simp (c.bad_head.ensures, eq-eqb _ _ c.before.if-s-eq0.true))
     (λ c. search rules) (λ c κs. search rules)
-    (λ c. simp (c.bad-head2.ensures, le-ltb _ _ c.before.if2.true, le-leb _ _ c.before.if2.true, ne_eqb _ _ c.before.before.before.if1.false))
+    (λ c. simp (c.bad_head-then-b-ge128.ensures, le-ltb _ _ c.before.if-b-ge128.true, le-leb _ _ c.before.if-b-ge128.true, ne_eqb _ _ c.before.before.before.if-s-eq0.false))
     (λ c κs. search rules)
-    (λ c. simp (c.ports-after.ensures, eq-eqb _ _ c.before.if3.true, lt-ltb _ _ c.before.before.if2.false, lt-leb _ _ c.before.before.if2.false, ne_eqb _ _ c.before.before.before.before.if1.false))
+    (λ c. simp (c.ports_after.ensures, eq-eqb _ _ c.before.if-b-eq2.true, lt-ltb _ _ c.before.before.if-b-ge128.false, lt-leb _ _ c.before.before.if-b-ge128.false, ne_eqb _ _ c.before.before.before.before.if-s-eq0.false))
     (λ c κs. search rules)
-    (λ c. simp (c.bad-head3.ensures, lt-ltb _ _ c.before.if4.true, lt-leb _ _ c.before.if4.true, ne_eqb _ _ c.before.before.if3.false, lt-ltb _ _ c.before.before.before.if2.false, lt-leb _ _ c.before.before.before.if2.false, ne_eqb _ _ c.before.before.before.before.before.if1.false))
+    (λ c. simp (c.bad_head-then-s-lt2.ensures, lt-ltb _ _ c.before.if-s-lt2.true, lt-leb _ _ c.before.if-s-lt2.true, ne_eqb _ _ c.before.before.if-b-eq2.false, lt-ltb _ _ c.before.before.before.if-b-ge128.false, lt-leb _ _ c.before.before.before.if-b-ge128.false, ne_eqb _ _ c.before.before.before.before.before.if-s-eq0.false))
     (λ c. search rules) (λ c κs. search rules) (λ c κs. search rules)
-    (λ c. simp (c.ports-after2.ensures, c.before.kind-of.ensures, le-ltb _ _ c.before.before.before.if4.false, le-leb _ _ c.before.before.before.if4.false, ne_eqb _ _ c.before.before.before.before.if3.false, lt-ltb _ _ c.before.before.before.before.before.if2.false, lt-leb _ _ c.before.before.before.before.before.if2.false, ne_eqb _ _ c.before.before.before.before.before.before.before.if1.false)))
+    (λ c. simp (c.ports_after-2.ensures, c.before.kind_of-kind.ensures, le-ltb _ _ c.before.before.before.if-s-lt2.false, le-leb _ _ c.before.before.before.if-s-lt2.false, ne_eqb _ _ c.before.before.before.before.if-b-eq2.false, lt-ltb _ _ c.before.before.before.before.before.if-b-ge128.false, lt-leb _ _ c.before.before.before.before.before.if-b-ge128.false, ne_eqb _ _ c.before.before.before.before.before.before.before.if-s-eq0.false)))

@@ -10,10 +10,10 @@ unfolding kind_of
 kind_of_spec =
     tie.close (tie.spec
     (λ c κs. search rules)
-    (λ c. simp (c.if2.true, ← c.before.has-sack.ensures, lt-ltb _ _ c.before.before.if1.true, lt-leb _ _ c.before.before.if1.true))
-    (λ c. simp (c.if2.false, ← c.before.has-sack.ensures, lt-ltb _ _ c.before.before.if1.true, lt-leb _ _ c.before.before.if1.true))
+    (λ c. simp (c.if-has_sack.true, ← c.before.has_sack.ensures, lt-ltb _ _ c.before.before.if-b-lt64.true, lt-leb _ _ c.before.before.if-b-lt64.true))
+    (λ c. simp (c.if-has_sack.false, ← c.before.has_sack.ensures, lt-ltb _ _ c.before.before.if-b-lt64.true, lt-leb _ _ c.before.before.if-b-lt64.true))
     (λ c κs. search rules)
-    (λ c. simp (c.if4.true, ← c.before.has-sack2.ensures, eq-eqb _ _ c.before.before.if3.true, le-ltb _ _ c.before.before.before.if1.false, le-leb _ _ c.before.before.before.if1.false))
-    (λ c. simp (c.if4.false, ← c.before.has-sack2.ensures, eq-eqb _ _ c.before.before.if3.true, le-ltb _ _ c.before.before.before.if1.false, le-leb _ _ c.before.before.before.if1.false))
+    (λ c. simp (c.if-has_sack-2.true, ← c.before.has_sack-then-b-eq0.ensures, eq-eqb _ _ c.before.before.if-b-eq0.true, le-ltb _ _ c.before.before.before.if-b-lt64.false, le-leb _ _ c.before.before.before.if-b-lt64.false))
+    (λ c. simp (c.if-has_sack-2.false, ← c.before.has_sack-then-b-eq0.ensures, eq-eqb _ _ c.before.before.if-b-eq0.true, le-ltb _ _ c.before.before.before.if-b-lt64.false, le-leb _ _ c.before.before.before.if-b-lt64.false))
     (λ c κs. search rules) (λ c κs. search rules)
-    (λ c. simp (c.u_kind_holds.ensures, c.before.says-response.ensures, ne_eqb _ _ c.before.before.if3.false, le-ltb _ _ c.before.before.before.if1.false, le-leb _ _ c.before.before.before.if1.false)))
+    (λ c. simp (c.u_kind.ensures, c.before.says_response.ensures, ne_eqb _ _ c.before.before.if-b-eq0.false, le-ltb _ _ c.before.before.before.if-b-lt64.false, le-leb _ _ c.before.before.before.if-b-lt64.false)))

@@ -10,7 +10,7 @@ unfolding ports_after
 ports_after_spec =
     tie.close (tie.spec
     (λ c κs. search rules)
-    (λ c. simp (c.bad-head.ensures, le-ltb _ _ c.before.if2.true, le-leb _ _ c.before.if2.true, c.before.before.if1.true))
+    (λ c. simp (c.bad_head.ensures, le-ltb _ _ c.before.if-s-at.true, le-leb _ _ c.before.if-s-at.true, c.before.before.if-ads.true))
     (λ c. search rules) (λ c. search rules)
-    (λ c. simp (lt-ltb _ _ c.before.if2.false, lt-leb _ _ c.before.if2.false, c.before.before.if1.true))
-    (λ c. simp c.if1.false))
+    (λ c. simp (lt-ltb _ _ c.before.if-s-at.false, lt-leb _ _ c.before.if-s-at.false, c.before.before.if-ads.true))
+    (λ c. simp c.if-ads.false))

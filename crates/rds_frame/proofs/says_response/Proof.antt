@@ -7,6 +7,6 @@ pub says_response_spec : {M : Type 1} → statement M
 unfolding responds
 says_response_spec =
     tie.close (tie.spec
-    (λ c. simp (c.if2.true, c.before.if1.true))
-    (λ c. simp (c.if2.false, c.before.if1.true))
-    (λ c. simp c.if1.false))
+    (λ c. simp (c.if-cr.true, c.before.if-from_network.true))
+    (λ c. simp (c.if-cr.false, c.before.if-from_network.true))
+    (λ c. simp c.if-from_network.false))

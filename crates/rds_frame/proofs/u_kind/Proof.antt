@@ -9,8 +9,8 @@ unfolding u_kind
 u_kind_spec =
     tie.close (tie.spec
     (λ c κs. search rules)
-    (λ c. simp (c.if2.true, ← c.before.is-answer.ensures, c.before.before.if1.true))
-    (λ c. simp (c.if2.false, ← c.before.is-answer.ensures, c.before.before.if1.true))
+    (λ c. simp (c.if-is_answer.true, ← c.before.is_answer.ensures, c.before.before.if-response.true))
+    (λ c. simp (c.if-is_answer.false, ← c.before.is_answer.ensures, c.before.before.if-response.true))
     (λ c κs. search rules)
-    (λ c. simp (c.if3.true, ← c.before.is-command.ensures, c.before.before.if1.false))
-    (λ c. simp (c.if3.false, ← c.before.is-command.ensures, c.before.before.if1.false)))
+    (λ c. simp (c.if-is_command.true, ← c.before.is_command.ensures, c.before.before.if-response.false))
+    (λ c. simp (c.if-is_command.false, ← c.before.is_command.ensures, c.before.before.if-response.false)))

@@ -9,10 +9,10 @@ pub item_length_spec : {M : Type 1} → statement M
 unfolding item_length
 item_length_spec =
     tie.close (tie.spec
-    (λ c. (simp (lt-ltb _ _ c.if1.true, lt-leb _ _ c.if1.true), search rules))
+    (λ c. (simp (lt-ltb _ _ c.if-s-lt2.true, lt-leb _ _ c.if-s-lt2.true), search rules))
     (λ c. search rules) (λ c κs. search rules) (λ c. search rules)
-    (λ c. (simp (lt-ltb _ _ c.if2.true, lt-leb _ _ c.if2.true, ← c.before.size.ensures.0, le-ltb _ _ c.before.before.before.if1.false, le-leb _ _ c.before.before.before.if1.false), search rules))
+    (λ c. (simp (lt-ltb _ _ c.if-s-n.true, lt-leb _ _ c.if-s-n.true, ← c.before.size-n.ensures.0, le-ltb _ _ c.before.before.before.if-s-lt2.false, le-leb _ _ c.before.before.before.if-s-lt2.false), search rules))
     (λ c. search rules)
-    (λ c. (simp (eq-eqb _ _ c.if4.true, eq-eqb _ _ c.before.if3.true, le-ltb _ _ c.before.before.before.if2.false, le-leb _ _ c.before.before.before.if2.false, ← c.before.before.before.before.size.ensures.0, le-ltb _ _ c.before.before.before.before.before.before.if1.false, le-leb _ _ c.before.before.before.before.before.before.if1.false), search rules))
-    (λ c. (simp (ne_eqb _ _ c.if4.false, eq-eqb _ _ c.before.if3.true, le-ltb _ _ c.before.before.before.if2.false, le-leb _ _ c.before.before.before.if2.false, ← c.before.before.before.before.size.ensures.0, le-ltb _ _ c.before.before.before.before.before.before.if1.false, le-leb _ _ c.before.before.before.before.before.before.if1.false), search rules))
-    (λ c. (simp (ne_eqb _ _ c.if3.false, le-ltb _ _ c.before.before.if2.false, le-leb _ _ c.before.before.if2.false, ← c.before.before.before.size.ensures.0, le-ltb _ _ c.before.before.before.before.before.if1.false, le-leb _ _ c.before.before.before.before.before.if1.false), search rules)))
+    (λ c. (simp (eq-eqb _ _ c.if-n-eq3.true, eq-eqb _ _ c.before.if-s-eq0.true, le-ltb _ _ c.before.before.before.if-s-n.false, le-leb _ _ c.before.before.before.if-s-n.false, ← c.before.before.before.before.size-n.ensures.0, le-ltb _ _ c.before.before.before.before.before.before.if-s-lt2.false, le-leb _ _ c.before.before.before.before.before.before.if-s-lt2.false), search rules))
+    (λ c. (simp (ne_eqb _ _ c.if-n-eq3.false, eq-eqb _ _ c.before.if-s-eq0.true, le-ltb _ _ c.before.before.before.if-s-n.false, le-leb _ _ c.before.before.before.if-s-n.false, ← c.before.before.before.before.size-n.ensures.0, le-ltb _ _ c.before.before.before.before.before.before.if-s-lt2.false, le-leb _ _ c.before.before.before.before.before.before.if-s-lt2.false), search rules))
+    (λ c. (simp (ne_eqb _ _ c.if-s-eq0.false, le-ltb _ _ c.before.before.if-s-n.false, le-leb _ _ c.before.before.if-s-n.false, ← c.before.before.before.size-n.ensures.0, le-ltb _ _ c.before.before.before.before.before.if-s-lt2.false, le-leb _ _ c.before.before.before.before.before.if-s-lt2.false), search rules)))

@@ -10,6 +10,6 @@ unfolding answer_pieces
 answer_spec =
     tie.close (tie.spec
     (λ c κs. search rules)
-    (λ c. simp (c.fixed.ensures, eq-eqb _ _ c.before.if1.true))
+    (λ c. simp (c.fixed.ensures, eq-eqb _ _ c.before.if-action-eq5.true))
     (λ c κs. search rules)
-    (λ c. simp (c.fixed2.ensures, ne_eqb _ _ c.before.if1.false)))
+    (λ c. simp (c.fixed-2.ensures, ne_eqb _ _ c.before.if-action-eq5.false)))

@@ -9,4 +9,4 @@ unfolding asking_pieces
 asking_spec =
     tie.close (tie.spec
     (λ c κs. search rules) (λ c κs. search rules) (λ c κs. search rules)
-    (λ c. simp (c.size.ensures.0, c.before.bit.ensures.0, c.before.before.ports-octet.ensures)))
+    (λ c. simp (c.size.ensures.0, c.before.bit.ensures.0, c.before.before.ports_octet-ports.ensures)))

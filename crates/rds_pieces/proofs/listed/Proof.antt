@@ -10,4 +10,4 @@ listed_spec =
     tie.close (tie.spec
     (λ c κs. search rules) (λ c. search rules) (λ c. search rules) (λ c κs. search rules) (λ c κs. search rules)
     (λ c κs. search rules) (λ c. search rules)
-    (λ c. simp (c.size2.ensures.0, c.before.bit.ensures.0, c.before.before.size.ensures.0, c.before.before.before.bitmap-octets.ensures)))
+    (λ c. simp (c.size-2.ensures.0, c.before.bit.ensures.0, c.before.before.size.ensures.0, c.before.before.before.bitmap_octets-tail.ensures)))

@@ -10,4 +10,4 @@ query_spec =
     tie.close (tie.spec
     (λ c κs. search rules) (λ c. search rules) (λ c. search rules) (λ c κs. search rules) (λ c κs. search rules)
     (λ c. search rules) (λ c. search rules) (λ c κs. search rules)
-    (λ c. simp (c.fixed.ensures, c.before.size.ensures.0, c.before.before.bit.ensures.0, c.before.before.before.bitmap-octets.ensures)))
+    (λ c. simp (c.fixed.ensures, c.before.size.ensures.0, c.before.before.bit.ensures.0, c.before.before.before.bitmap_octets-map.ensures)))

@@ -10,6 +10,6 @@ unfolding body_after
 body_after_spec =
     tie.close (tie.spec
     (λ c. search rules) (λ c κs. search rules)
-    (λ c. simp (c.body_of.ensures, le-ltb _ _ c.before.if1.true, le-leb _ _ c.before.if1.true))
+    (λ c. simp (c.body_of.ensures, le-ltb _ _ c.before.if-s-end-le1520.true, le-leb _ _ c.before.if-s-end-le1520.true))
     (λ c κs. search rules)
-    (λ c. simp (c.no-list.ensures, lt-ltb _ _ c.before.if1.false, lt-leb _ _ c.before.if1.false)))
+    (λ c. simp (c.no_list.ensures, lt-ltb _ _ c.before.if-s-end-le1520.false, lt-leb _ _ c.before.if-s-end-le1520.false)))

@@ -8,5 +8,5 @@ pub empty_spec : {M : Type 1} → statement M
 unfolding empty_of
 empty_spec =
     tie.close (tie.spec
-    (λ c. simp (eq-eqb _ _ c.if1.true))
-    (λ c. simp (ne_eqb _ _ c.if1.false)))
+    (λ c. simp (eq-eqb _ _ c.if-n-at.true))
+    (λ c. simp (ne_eqb _ _ c.if-n-at.false)))

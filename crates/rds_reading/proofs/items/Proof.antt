@@ -9,5 +9,5 @@ unfolding items_of
 items_spec =
     tie.close (tie.spec
     (λ c. search rules) (λ c κs. search rules) (λ c κs. search rules)
-    (λ c. simp (c.if1.true, ← (rw c.before.before.information.ensures at c.before.all-items.ensures)))
-    (λ c. simp (c.if1.false, ← (rw c.before.before.information.ensures at c.before.all-items.ensures))))
+    (λ c. simp (c.if-all_items.true, ← (rw c.before.before.information.ensures at c.before.all_items.ensures)))
+    (λ c. simp (c.if-all_items.false, ← (rw c.before.before.information.ensures at c.before.all_items.ensures))))

@@ -11,7 +11,7 @@ unfolding manage_of
 manage_spec =
     tie.close (tie.spec
     (λ c κs. search rules)
-    (λ c. simp (c.no-list.ensures, c.before.if1.true))
+    (λ c. simp (c.no_list.ensures, c.before.if-ads.true))
     (λ c κs. search rules)
     (λ c κs. rw c.information.ensures (simp length-drop (omega arith)))
-    (λ c. simp (c.manage.ensures, c.before.information.ensures, c.before.before.if1.false)))
+    (λ c. simp (c.manage.ensures, c.before.information.ensures, c.before.before.if-ads.false)))

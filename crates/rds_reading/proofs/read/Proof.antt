@@ -10,5 +10,5 @@ unfolding frame_of
 read_spec =
     tie.close (tie.spec
     (λ c κs. search rules)
-    (λ c κs. rw c.head_of.ensures (head_inside _ _))
-    (λ c. simp (c.before.body-after.ensures, c.before.before.head_of.ensures)))
+    (λ c κs. rw c.head_of-head.ensures (head_inside _ _))
+    (λ c. simp (c.before.body_after-managed.ensures, c.before.before.head_of-head.ensures)))

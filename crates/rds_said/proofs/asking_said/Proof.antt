@@ -10,4 +10,4 @@ asking_said_spec =
     tie.close (tie.spec
     (λ c. search rules) (λ c κs. search rules) (λ c. search rules) (λ c κs. search rules) (λ c. search rules)
     (λ c. search rules) (λ c. search rules) (λ c κs. search rules)
-    (λ c. simp (c.format-said.ensures, c.before.before.before.before.four-bits2.ensures, c.before.before.before.before.before.before.four-bits.ensures)))
+    (λ c. simp (c.format_said.ensures, c.before.before.before.before.four_bits-2.ensures, c.before.before.before.before.before.before.four_bits.ensures)))

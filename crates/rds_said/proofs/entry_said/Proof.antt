@@ -13,5 +13,5 @@ entry_said_spec =
     (λ c. search rules) (λ c. search rules) (λ c. search rules) (λ c κs. search rules) (λ c. search rules)
     (λ c. search rules) (λ c. search rules) (λ c. search rules) (λ c. search rules) (λ c. search rules)
     (λ c. search rules) (λ c. search rules) (λ c. search rules) (λ c κs. search rules)
-    (λ c. simp (c.format-said.ensures, c.before.before.before.before.four-bits2.ensures, c.before.before.before.before.before.before.four-bits.ensures, lt-ltb _ _ c.before.before.before.before.before.before.before.before.if1.true, lt-leb _ _ c.before.before.before.before.before.before.before.before.if1.true))
-    (λ c. simp (le-ltb _ _ c.if1.false, le-leb _ _ c.if1.false)))
+    (λ c. simp (c.format_said.ensures, c.before.before.before.before.four_bits-then-k-count.ensures, c.before.before.before.before.before.before.four_bits.ensures, lt-ltb _ _ c.before.before.before.before.before.before.before.before.if-k-count.true, lt-leb _ _ c.before.before.before.before.before.before.before.before.if-k-count.true))
+    (λ c. simp (le-ltb _ _ c.if-k-count.false, le-leb _ _ c.if-k-count.false)))

@@ -9,5 +9,5 @@ unfolding format_said
 format_said_spec =
     tie.close (tie.spec
     (λ c κs. search rules)
-    (λ c. simp (c.three-bits.ensures, c.before.if1.true))
-    (λ c. simp c.if1.false))
+    (λ c. simp (c.three_bits.ensures, c.before.if-there.true))
+    (λ c. simp c.if-there.false))

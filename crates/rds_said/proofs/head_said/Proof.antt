@@ -11,5 +11,5 @@ head_said_spec =
     tie.close (tie.spec
     (λ c κs. search rules) (λ c. search rules) (λ c. search rules) (λ c κs. search rules) (λ c. search rules)
     (λ c κs. search rules)
-    (λ c. simp (c.four-bits2.ensures, c.before.before.four-bits.ensures, eq-eqb _ _ c.before.before.before.before.if1.true, c.before.before.before.before.before.before.kind_said_holds.ensures))
-    (λ c. simp (ne_eqb _ _ c.if1.false, c.before.before.kind_said_holds.ensures)))
+    (λ c. simp (c.four_bits-then-words-eq1.ensures, c.before.before.four_bits.ensures, eq-eqb _ _ c.before.before.before.before.if-words-eq1.true, c.before.before.before.before.before.before.kind_said-kind.ensures))
+    (λ c. simp (ne_eqb _ _ c.if-words-eq1.false, c.before.before.kind_said-kind.ensures)))

@@ -9,5 +9,5 @@ unfolding ports_said
 ports_said_spec =
     tie.close (tie.spec
     (λ c. search rules) (λ c. search rules)
-    (λ c. simp c.if1.true)
-    (λ c. simp c.if1.false))
+    (λ c. simp c.if-there.true)
+    (λ c. simp c.if-there.false))

@@ -9,4 +9,4 @@ unfolding frame_said
 said_spec =
     tie.close (tie.spec
     (λ c κs. search rules) (λ c κs. search rules) (λ c κs. search rules)
-    (λ c. simp (c.entries_said_holds.ensures, c.before.body-said.ensures, c.before.before.head_said_holds.ensures)))
+    (λ c. simp (c.entries_said-list.ensures, c.before.body_said-body.ensures, c.before.before.head_said-head.ensures)))

@@ -13,9 +13,9 @@ unfolding asking_size
 asking_size_spec =
     tie.close (tie.spec
     (λ c κs. search rules)
-    (λ c. omega (arith, (application _ _ _ (sym c.before.before.is-application.ensures ∙ c.before.if1.true)).bounded))
-    (λ c. omega (arith, (application _ _ _ (sym c.before.before.is-application.ensures ∙ c.before.if1.true)).bounded))
-    (λ c. (simp (eq-eqb _ _ c.if2.true, c.before.if1.true, ← c.before.before.is-application.ensures), omega (arith, (application _ _ _ (sym c.before.before.is-application.ensures ∙ c.before.if1.true)).bounded)))
-    (λ c. omega (arith, (application _ _ _ (sym c.before.before.is-application.ensures ∙ c.before.if1.true)).bounded))
-    (λ c. (simp (ne_eqb _ _ c.if2.false, c.before.if1.true, ← c.before.before.is-application.ensures), omega (arith, (application _ _ _ (sym c.before.before.is-application.ensures ∙ c.before.if1.true)).bounded)))
-    (λ c. (simp (c.if1.false, ← c.before.is-application.ensures), search rules)))
+    (λ c. omega (arith, (application _ _ _ (sym c.before.before.is_application.ensures ∙ c.before.if-is_application.true)).bounded))
+    (λ c. omega (arith, (application _ _ _ (sym c.before.before.is_application.ensures ∙ c.before.if-is_application.true)).bounded))
+    (λ c. (simp (eq-eqb _ _ c.if-action-eq5.true, c.before.if-is_application.true, ← c.before.before.is_application.ensures), omega (arith, (application _ _ _ (sym c.before.before.is_application.ensures ∙ c.before.if-is_application.true)).bounded)))
+    (λ c. omega (arith, (application _ _ _ (sym c.before.before.is_application.ensures ∙ c.before.if-is_application.true)).bounded))
+    (λ c. (simp (ne_eqb _ _ c.if-action-eq5.false, c.before.if-is_application.true, ← c.before.before.is_application.ensures), omega (arith, (application _ _ _ (sym c.before.before.is_application.ensures ∙ c.before.if-is_application.true)).bounded)))
+    (λ c. (simp (c.if-is_application.false, ← c.before.is_application.ensures), search rules)))

@@ -12,9 +12,9 @@ unfolding entry_size
 entry_size_spec =
     tie.close (tie.spec
     (λ c κs. search rules)
-    (λ c. omega (arith, (application _ _ _ (sym c.before.before.before.is-application.ensures ∙ c.before.before.if1.true)).bounded))
-    (λ c. omega (arith, (application _ _ _ (sym c.before.before.before.is-application.ensures ∙ c.before.before.if1.true)).bounded))
-    (λ c. (simp (c.before.if2.true, c.before.before.if1.true, ← c.before.before.before.is-application.ensures), omega (arith, (application _ _ _ (sym c.before.before.before.is-application.ensures ∙ c.before.before.if1.true)).bounded)))
-    (λ c. omega (arith, (application _ _ _ (sym c.before.before.before.is-application.ensures ∙ c.before.before.if1.true)).bounded))
-    (λ c. (simp (c.before.if2.false, c.before.before.if1.true, ← c.before.before.before.is-application.ensures), omega (arith, (application _ _ _ (sym c.before.before.before.is-application.ensures ∙ c.before.before.if1.true)).bounded)))
-    (λ c. (simp (c.if1.false, ← c.before.is-application.ensures), search rules)))
+    (λ c. omega (arith, (application _ _ _ (sym c.before.before.before.is_application.ensures ∙ c.before.before.if-is_application.true)).bounded))
+    (λ c. omega (arith, (application _ _ _ (sym c.before.before.before.is_application.ensures ∙ c.before.before.if-is_application.true)).bounded))
+    (λ c. (simp (c.before.if-formats.true, c.before.before.if-is_application.true, ← c.before.before.before.is_application.ensures), omega (arith, (application _ _ _ (sym c.before.before.before.is_application.ensures ∙ c.before.before.if-is_application.true)).bounded)))
+    (λ c. omega (arith, (application _ _ _ (sym c.before.before.before.is_application.ensures ∙ c.before.before.if-is_application.true)).bounded))
+    (λ c. (simp (c.before.if-formats.false, c.before.before.if-is_application.true, ← c.before.before.before.is_application.ensures), omega (arith, (application _ _ _ (sym c.before.before.before.is_application.ensures ∙ c.before.before.if-is_application.true)).bounded)))
+    (λ c. (simp (c.if-is_application.false, ← c.before.is_application.ensures), search rules)))

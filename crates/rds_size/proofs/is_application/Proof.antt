@@ -13,12 +13,12 @@ pub is_application_spec : {M : Type 1} → statement M
 unfolding is_application
 is_application_spec =
     tie.close (tie.spec
-    (λ c. simp (eq-eqb _ _ c.if1.true))
-    (λ c. simp (lt-ltb _ _ c.if2.true, lt-leb _ _ c.if2.true, ne_eqb _ _ c.before.if1.false))
+    (λ c. simp (eq-eqb _ _ c.if-len-eq0.true))
+    (λ c. simp (lt-ltb _ _ c.if-len-gt272.true, lt-leb _ _ c.if-len-gt272.true, ne_eqb _ _ c.before.if-len-eq0.false))
     (λ c κs. search rules)
-    (λ c. omega (arith, inside_ends _ _ _ (sym c.before.lies-inside.ensures ∙ c.if3.true)))
+    (λ c. omega (arith, inside_ends _ _ _ (sym c.before.lies_inside.ensures ∙ c.if-lies_inside.true)))
     (λ c. search rules) (λ c. search rules)
-    (λ c. omega (arith, inside_ends _ _ _ (sym c.before.lies-inside.ensures ∙ c.if3.true)))
+    (λ c. omega (arith, inside_ends _ _ _ (sym c.before.lies_inside.ensures ∙ c.if-lies_inside.true)))
     (λ c κs. search rules)
-    (λ c. simp ((rw add-sub_cancel_left at c.application-length.ensures.0), c.before.before.if3.true, ← c.before.before.before.lies-inside.ensures, le-ltb _ _ c.before.before.before.before.if2.false, le-leb _ _ c.before.before.before.before.if2.false, ne_eqb _ _ c.before.before.before.before.before.if1.false))
-    (λ c. simp (c.if3.false, ← c.before.lies-inside.ensures, le-ltb _ _ c.before.before.if2.false, le-leb _ _ c.before.before.if2.false, ne_eqb _ _ c.before.before.before.if1.false)))
+    (λ c. simp ((rw add-sub_cancel_left at c.application_length.ensures.0), c.before.before.if-lies_inside.true, ← c.before.before.before.lies_inside.ensures, le-ltb _ _ c.before.before.before.before.if-len-gt272.false, le-leb _ _ c.before.before.before.before.if-len-gt272.false, ne_eqb _ _ c.before.before.before.before.before.if-len-eq0.false))
+    (λ c. simp (c.if-lies_inside.false, ← c.before.lies_inside.ensures, le-ltb _ _ c.before.before.if-len-gt272.false, le-leb _ _ c.before.before.if-len-gt272.false, ne_eqb _ _ c.before.before.before.if-len-eq0.false)))

@@ -8,5 +8,5 @@ pub lies_inside_spec : {M : Type 1} → statement M
 unfolding inside
 lies_inside_spec =
     tie.close (tie.spec
-    (λ c. simp (le-ltb _ _ c.if1.true, le-leb _ _ c.if1.true))
-    (λ c. simp (lt-ltb _ _ c.if1.false, lt-leb _ _ c.if1.false)))
+    (λ c. simp (le-ltb _ _ c.if-start-n.true, le-leb _ _ c.if-start-n.true))
+    (λ c. simp (lt-ltb _ _ c.if-start-n.false, lt-leb _ _ c.if-start-n.false)))

@@ -9,6 +9,6 @@ unfolding list_size
 list_size_spec =
     tie.close (tie.spec
     (λ c κs. search rules) (λ c κs. search rules) (λ c. search rules) (λ c. search rules)
-    (λ c. (simp (c.if1.true, c.before.entries-size.ensures.0, c.before.before.size.ensures.0), search rules))
+    (λ c. (simp (c.if-some.true, c.before.entries_size-entries.ensures.0, c.before.before.size-n.ensures.0), search rules))
     (λ c. search rules)
-    (λ c. (simp (c.if1.false, c.before.entries-size.ensures.0, c.before.before.size.ensures.0), search rules)))
+    (λ c. (simp (c.if-some.false, c.before.entries_size-entries.ensures.0, c.before.before.size-n.ensures.0), search rules)))
