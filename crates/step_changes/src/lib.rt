@@ -22,6 +22,7 @@ pub fn change_of(after: Record, ended: Change) -> Change
 }
 
 // What becomes of the cached TID of the peer: 0 is none, else LastTID and 1.
+#[tactic(auto, unfolding(crate::specs::Changes::cached_after))]
 pub fn cached_after(cache: Cache, cached: u16, tid: u16) -> TidChange
     requires { tid < tid_count }
     ensures { result ≡ cached_after cache cached tid }

@@ -36,6 +36,7 @@ pub fn opening_changes(
 }
 
 // The place of the record that an opening takes; the first where it can take none.
+#[tactic(auto, unfolding(crate::specs::Opens::place_for))]
 pub fn place_for(free: Found) -> usize
     ensures { result ≡ place_for free }
 {

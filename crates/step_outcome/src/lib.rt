@@ -1,5 +1,6 @@
 // Carries an accepted call's step out: the table, the cell, and last the output, one lent slice at a time.
 #![tactic(auto)]
+
 ghost use Rattle.std.specs.Prelude.{◌≡◌, ◌+◌, ◌*◌, ◌≤◌, ◌<◌, length};
 ghost use Rattle.base_layout.specs.Layout.{output_least, records_bound};
 ghost use Rattle.base_lists.specs.Seq.{put};

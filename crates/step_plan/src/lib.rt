@@ -96,6 +96,7 @@ fn cell_of(h: Holder) -> Part
 }
 
 // The message of the PDU to send.
+#[tactic(auto, unfolding(crate::specs::Steps::message_of))]
 fn message_of(send: Send, h: Holder, c: Call) -> Part
     requires { h.place < records_bound }
     ensures { result ≡ message_of send h c }
@@ -163,6 +164,7 @@ pub fn context_of(h: Holder, c: Call) -> Context
         cell: cell_place,
     }
 }
+#[tactic(auto, unfolding(crate::specs::Steps::told_of_is))]
 
 pub fn told_of(tells: Tells, h: Holder) -> Told
     ensures { result ≡ told_of_is tells h }

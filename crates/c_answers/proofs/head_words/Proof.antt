@@ -15,4 +15,4 @@ pub head_words_spec : {M : Type 1} → statement M
 head_words_spec =
     tie.close (tie.spec
     (λ c κs. search rules) (λ c κs. search rules) add_count (λ c κs. search rules) (λ c κs. search rules)
-    (λ c. rw (c.told-fired.ensures, c.before.told_tid_holds.ensures, c.before.before.shown-count2.ensures, c.before.before.before.shown-count.ensures) refl))
+    (λ c. rw (c.told-fired.ensures, c.before.told_tid.ensures, c.before.before.shown-count2.ensures, c.before.before.before.shown-count.ensures) refl))

@@ -10,5 +10,5 @@ unfolding change_of
 change_of_spec =
     tie.close (tie.spec
     (λ c κs. search rules)
-    (λ c. simp (eq-eqb _ _ c.if1.true, ← c.before.state_number_holds.ensures))
-    (λ c. simp (ne_eqb _ _ c.if1.false, ← c.before.state_number_holds.ensures)))
+    (λ c. simp (eq-eqb _ _ c.if-state_number-eq0.true, ← c.before.state_number.ensures))
+    (λ c. simp (ne_eqb _ _ c.if-state_number-eq0.false, ← c.before.state_number.ensures)))

@@ -9,4 +9,4 @@ unfolding turn_changes
 turn_changes_spec =
     tie.close (tie.spec
     (λ c κs. search rules) (λ c κs. search rules) (λ c κs. search rules)
-    (λ c. simp (c.size.ensures.0, c.before.cached-after.ensures, c.before.before.change-of.ensures)))
+    (λ c. simp (c.size.ensures.0, c.before.cached_after-header.ensures, c.before.before.change_of-change.ensures)))

@@ -9,4 +9,4 @@ unfolding holder_of
 holder_of_spec =
     tie.close (tie.spec
     (λ c κs. search rules) (λ c κs. search rules)
-    (λ c. simp (c.class_of.ensures, c.before.role-of.ensures)))
+    (λ c. simp (c.class_of-class.ensures, c.before.role_of-role.ensures)))

@@ -9,4 +9,4 @@ unfolding row_at
 row_at_spec =
     tie.close (tie.spec
     (λ c κs. search rules) (λ c κs. search rules) (λ c κs. search rules)
-    (λ c. simp (c.row_in.ensures, c.before.settings-of.ensures, c.before.before.record-at.ensures)))
+    (λ c. simp (c.row_in.ensures, c.before.settings_of-s.ensures, c.before.before.record_at-r.ensures)))

@@ -7,4 +7,4 @@ pub row_in_spec : {M : Type 1} → statement M
 row_in_spec =
     tie.close (tie.spec
     (λ c κs. search rules) (λ c κs. search rules)
-    (λ c. simp (c.row_of.ensures, c.before.conditions-of.ensures)))
+    (λ c. simp (c.row_of.ensures, c.before.conditions_of-c.ensures)))

@@ -6,8 +6,8 @@ use Rattle.step_outcome.proofs.write_cell.Tie as tie
 pub write_cell_spec : {M : Type 1} → statement M
 write_cell_spec =
     tie.close (tie.spec
-    (λ c. let f = rw c.before.if1.true at c.before.before.before.before.requires in search rules)
-    (λ c κs. rw c.before.if1.true at c.before.before.before.before.requires)
+    (λ c. let f = rw c.before.if-cell.true at c.before.before.before.before.requires in search rules)
+    (λ c κs. rw c.before.if-cell.true at c.before.before.before.before.requires)
     (λ c. search rules)
-    (λ c. rw c.before.before.before.before.if1.true c.before.before.copy.ensures)
-    (λ c. rw c.if1.false))
+    (λ c. rw c.before.before.before.before.if-cell.true c.before.before.copy.ensures)
+    (λ c. rw c.if-cell.false))

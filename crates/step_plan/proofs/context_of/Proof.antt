@@ -9,4 +9,4 @@ unfolding context_of
 context_of_spec =
     tie.close (tie.spec
     (λ c κs. search rules) (λ c κs. search rules) (λ c κs. search rules) (λ c κs. search rules)
-    (λ c. simp (c.place-in3.ensures, c.before.place-in2.ensures, c.before.before.place_in_holds.ensures, c.before.before.before.cell-of.ensures)))
+    (λ c. simp (c.place_in-cell_place.ensures, c.before.place_in-user_place.ensures, c.before.before.place_in-info_place.ensures, c.before.before.before.cell_of-cell.ensures)))

@@ -9,4 +9,4 @@ unfolding sender_of
 sender_of_spec =
     tie.close (tie.spec
     (λ c κs. search rules) (λ c κs. search rules) (λ c. search rules) (λ c. search rules) (λ c. search rules)
-    (λ c. simp (c.before.size.ensures.0, c.before.before.message-of.ensures)))
+    (λ c. simp (c.before.size-exit_len.ensures.0, c.before.before.message_of-message.ensures)))
