@@ -11,4 +11,4 @@ moved_to_spec =
     (λ c κs. search rules) (λ c κs. search rules) (λ c κs. search rules) (λ c κs. search rules) (λ c κs. search rules)
     (λ c κs. search rules) (λ c κs. search rules) (λ c κs. search rules) (λ c κs. search rules) (λ c κs. search rules)
     (λ c κs. search rules) (λ c κs. search rules) (λ c κs. search rules) (λ c κs. search rules) (λ c κs. search rules)
-    (λ c. simp (c.sent-after.ensures, c.before.sent-most.ensures, c.before.before.unknown-after.ensures, c.before.before.before.limit-after.ensures, c.before.before.before.before.len_after.ensures, c.before.before.before.before.before.deadline-after.ensures, c.before.before.before.before.before.before.interval.ensures, c.before.before.before.before.before.before.before.intervals-of.ensures, c.before.before.before.before.before.before.before.before.class_of.ensures, c.before.before.before.before.before.before.before.before.before.exit-len-after.ensures, c.before.before.before.before.before.before.before.before.before.before.hold-on-sent-after.ensures, c.before.before.before.before.before.before.before.before.before.before.before.tidok-sent-after.ensures, c.before.before.before.before.before.before.before.before.before.before.before.before.hold-on-after.ensures, c.before.before.before.before.before.before.before.before.before.before.before.before.before.aec-after.ensures, c.before.before.before.before.before.before.before.before.before.before.before.before.before.before.rcr-after.ensures)))
+    (λ c. simp (c.sent_after-sent.ensures, c.before.sent_most-most.ensures, c.before.before.unknown_after-unknown.ensures, c.before.before.before.limit_after-limit.ensures, c.before.before.before.before.len_after-len.ensures, c.before.before.before.before.before.deadline_after-deadline.ensures, c.before.before.before.before.before.before.interval-again.ensures, c.before.before.before.before.before.before.before.intervals_of-rows.ensures, c.before.before.before.before.before.before.before.before.class_of-class.ensures, c.before.before.before.before.before.before.before.before.before.exit_len_after-exit_len.ensures, c.before.before.before.before.before.before.before.before.before.before.hold_on_sent_after-hold_on_sent.ensures, c.before.before.before.before.before.before.before.before.before.before.before.tidok_sent_after-tidok_sent.ensures, c.before.before.before.before.before.before.before.before.before.before.before.before.hold_on_after-hold_on.ensures, c.before.before.before.before.before.before.before.before.before.before.before.before.before.aec_after-aec.ensures, c.before.before.before.before.before.before.before.before.before.before.before.before.before.before.rcr_after-rcr.ensures)))

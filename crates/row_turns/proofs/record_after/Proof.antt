@@ -32,6 +32,6 @@ pub record_after_spec : {M : Type 1} → statement M
 record_after_spec =
     tie.close (tie.spec
     (λ c κs. search rules) (λ c κs. search rules)
-    (λ c. c.new-record.ensures ∙ ended _ _ _ _ _ _ (sym c.before.before.ends.ensures ∙ c.before.if1.true))
+    (λ c. c.new_record.ensures ∙ ended _ _ _ _ _ _ (sym c.before.before.ends.ensures ∙ c.before.if-ends.true))
     (λ c κs. search rules) (λ c κs. search rules)
-    (λ c. c.moved_to.ensures ∙ rw c.before.state-after.ensures (moved _ _ _ _ _ _ (sym c.before.before.before.ends.ensures ∙ c.before.before.if1.false))))
+    (λ c. c.moved_to.ensures ∙ rw c.before.state_after-state.ensures (moved _ _ _ _ _ _ (sym c.before.before.before.ends.ensures ∙ c.before.before.if-ends.false))))

@@ -12,7 +12,7 @@ unfolding sent_after
 sent_after_spec =
     tie.close (tie.spec
     (λ c κs. search rules)
-    (λ c. omega (arith, c.cost-of.ensures, cost_most c.before.args.send c.before.args.len, c.before.ranges))
+    (λ c. omega (arith, c.cost_of.ensures, cost_most c.before.args.send c.before.args.len, c.before.ranges))
     (λ c. search rules)
-    (λ c. rw (← c.before.cost-of.ensures, lt-ltb _ _ c.if1.true))
-    (λ c. rw (← c.before.cost-of.ensures, le-ltb _ _ c.if1.false)))
+    (λ c. rw (← c.before.cost_of.ensures, lt-ltb _ _ c.if-sum-most.true))
+    (λ c. rw (← c.before.cost_of.ensures, le-ltb _ _ c.if-sum-most.false)))

@@ -9,4 +9,4 @@ unfolding turn_of
 turn_of_spec =
     tie.close (tie.spec
     (λ c κs. search rules) (λ c κs. search rules)
-    (λ c. simp (c.stores-exit.ensures, c.before.record-after.ensures)))
+    (λ c. simp (c.stores_exit-stores.ensures, c.before.record_after-after.ensures)))

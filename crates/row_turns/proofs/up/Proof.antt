@@ -10,5 +10,5 @@ unfolding up_of
 up_spec =
     tie.close (tie.spec
     (λ c. search rules)
-    (λ c. simp (lt-ltb _ _ c.if1.true))
-    (λ c. simp (le-ltb _ _ c.if1.false)))
+    (λ c. simp (lt-ltb _ _ c.if-n-lt8.true))
+    (λ c. simp (le-ltb _ _ c.if-n-lt8.false)))
