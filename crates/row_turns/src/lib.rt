@@ -1,5 +1,6 @@
 // A turn: the right-hand side of a row applied to a record.
 #![tactic(auto)]
+
 ghost use Rattle.std.specs.Prelude.{◌≡◌, ◌+◌, ◌≤◌, length};
 ghost use Rattle.base_layout.specs.Layout.{header_size, time_bound};
 ghost use Rattle.table_layout.specs.Table.{intervals_of};
