@@ -1,9 +1,9 @@
 -- The words that are stored of a sound PDU, item by item, are its words. Assumes nothing.
-use Prim.Native.Nat.{ℕ, ◌≤◌}
-use mathlib.Core.Path.{◌≡◌, refl, sym, ap, ◌∙◌}
+use Prim.Native.Nat.{ℕ}
+use mathlib.Core.Path.{◌≡◌, sym, ap, ◌∙◌}
 use mathlib.Core.List.{List}
 use mathlib.Core.Bool.{true}
-use mathlib.Core.Logic.{◌⊎◌, inl, inr}
+use mathlib.Core.Logic.{inl, inr}
 use Rattle.codec_pdu.specs.Pdu.{sound_of}
 use Rattle.codec_pdu.specs.Brief.{brief_of}
 use Rattle.codec_pdu.specs.declared.Pdu.{Pdu}

@@ -11,13 +11,10 @@ use Rattle.codec_reading.specs.Read.{pdu_of}
 use Rattle.codec_words.specs.Words.{words_of}
 use Rattle.codec_writing.specs.Writing.{written_answer, output_after as written}
 use Rattle.codec_writing.specs.declared.Written.{Written}
-use Rattle.codec_writing.specs.declared.Written.TheVariants as Written
 use Rattle.codec_separation.specs.Separate.{parts_of, answer_at}
 use Rattle.codec_separation.specs.declared.Separation.{Separation}
-use Rattle.codec_separation.specs.declared.Separation.TheVariants as Separation
 use Rattle.codec_joining.specs.Join.{joined_answer, output_after as joined}
 use Rattle.codec_joining.specs.declared.Joining.{Joining}
-use Rattle.codec_joining.specs.declared.Joining.TheVariants as Joining
 
 -- the C interface: "0 where the call was accepted, 1 to 16 a refusal with its number .. and 101 to 107 for D1 to D7"
 abbrev pub kind_number : Kind → ℕ

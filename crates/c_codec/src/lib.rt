@@ -1,5 +1,6 @@
 // The C interface's calls of the codec and the fresh table: words in and words out.
 #![tactic(auto)]
+
 ghost use Rattle.std.specs.Prelude.{◌≡◌, ◌≤◌, length};
 ghost use Rattle.base_layout.specs.Layout.{answer_size};
 ghost use Rattle.base_lists.specs.Seq.{put};
@@ -89,6 +90,7 @@ pub fn write(fields: &[u64], bytes: &[u8], out: &mut [u8], answer: &mut [u64]) -
 }
 
 // Separates a datagram: start and length of its k-th PDU, and how many there are.
+#[tactic(auto, unfolding(crate::specs::Calls::separate_number, crate::specs::Calls::part_after))]
 pub fn separate(datagram: &[u8], k: u64, part: &mut [u64]) -> u64
     ensures { (result ≡ separate_number datagram.now k part.old) × (part.new ≡ part_after datagram.now k part.old) }
 {
@@ -106,6 +108,7 @@ pub fn separate(datagram: &[u8], k: u64, part: &mut [u64]) -> u64
 }
 
 // Joins PDUs of these lengths, one after the other in `bytes`, to a datagram at the start of the output.
+#[tactic(auto, unfolding(crate::specs::Calls::join_number, crate::specs::Calls::join_output, crate::specs::Calls::join_answer))]
 pub fn join(bytes: &[u8], lengths: &[u64], out: &mut [u8], answer: &mut [u64]) -> u64
     ensures { (result ≡ join_number bytes.now lengths.now out.old answer.old) × (out.new ≡ join_output bytes.now lengths.now out.old answer.old) × (answer.new ≡ join_answer bytes.now lengths.now out.old answer.old) }
 {

@@ -6,7 +6,6 @@ use Rattle.base_numbers.specs.Numbers.{number_of}
 use Rattle.base_numbers.specs.declared.Refusal.TheVariants.{WrongSize, WrongLength}
 use Rattle.codec_separation.specs.Separate.{parts_of, answer_at}
 use Rattle.codec_separation.specs.declared.Separation.{Separation}
-use Rattle.codec_separation.specs.declared.Separation.TheVariants as Separation
 use Rattle.step_shown.specs.declared.Source.{Source}
 use Rattle.step_shown.specs.declared.Source.TheVariants.{Datagram, Store}
 use Rattle.step_shown.specs.declared.Place.{Place}

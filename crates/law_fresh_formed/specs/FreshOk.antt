@@ -1,5 +1,5 @@
 -- 01: the fresh-table call "leaves no live record, no cached TID and clock 0", and a well-formed table; 02, L2: TIDnew is due then.
-use Rattle.std.specs.Prelude.{ℕ, ◌<◌, ◌≡◌, List, true, length}
+use Rattle.std.specs.Prelude.{ℕ, ◌≡◌, List, true, length}
 use Rattle.table_record.specs.declared.State.TheVariants.{Free}
 use Rattle.table_layout.specs.Table.{clock_of, gen_tid_of, tidnew_due_of, cached_of, record_at}
 use Rattle.table_well_formed.specs.WellFormed.{WellFormed}

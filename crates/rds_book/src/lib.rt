@@ -1,5 +1,6 @@
 // The octets of the port book: 16 places of 276 octets after the side and the formats, and whether they are well formed.
 #![tactic(auto)]
+
 ghost use Rattle.std.specs.Prelude.{◌≡◌, ◌+◌, ◌≤◌, ◌<◌, length};
 ghost use Rattle.base_lists.specs.Seq.{every};
 ghost use Rattle.rds_book.specs.Book.{book_size, app_most, place_of, app_length, app_of_is, zeros, port_fits, is_action, command_fits, fits, place_ok, well_formed, keep, cleared, same};

@@ -1,5 +1,5 @@
 -- The rows of a frame from the peer (RDS.md, section 5): which one holds, and what each says.
-use Rattle.std.specs.Prelude.{ℕ, ◌/◌, ◌%◌, Bool, true, false, eqb}
+use Rattle.std.specs.Prelude.{ℕ, ◌/◌, ◌%◌, Bool, false, eqb}
 use Rattle.base_lists.specs.Seq.{pick}
 use Rattle.rds_rows.specs.declared.Row.{Row}
 use Rattle.rds_rows.specs.declared.Row.TheVariants.{R1, R2, R3, R4, R5, R6, R7, R8, R9, R10, R11, R12, R13, R14, R15}

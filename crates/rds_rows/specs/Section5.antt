@@ -1,5 +1,5 @@
 -- The rows once more, as section 5 of RDS.md lists them: each with what must hold, in the document's order; the first that holds decides.
-use Rattle.std.specs.Prelude.{ℕ, List, [], ◌∷◌, Bool, true, false}
+use Rattle.std.specs.Prelude.{List, [], ◌∷◌, Bool, true, false}
 use Rattle.base_lists.specs.Seq.{pick}
 use Rattle.rds_rows.specs.declared.Row.{Row}
 use Rattle.rds_rows.specs.declared.Row.TheVariants.{R1, R2, R3, R4, R5, R6, R7, R8, R10, R11, R12, R13, R15}

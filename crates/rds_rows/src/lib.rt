@@ -1,5 +1,6 @@
 // The rows of a frame from the peer: which one holds, and what each says.
 #![tactic(auto)]
+
 ghost use Rattle.std.specs.Prelude.{◌≡◌};
 ghost use Rattle.rds_rows.specs.Rows.{common, best, reserve_row, release_row, answer_row, event_of, status_of, format_of};
 

@@ -6,7 +6,6 @@ use mathlib.Core.Bool.{true}
 use lib.Dec.{eqb}
 use borrow.Author.Tests.{eqb-true}
 use Rattle.row_columns.specs.declared.Send.{Send}
-use Rattle.row_columns.specs.declared.Send.TheVariants as Send
 use Rattle.row_turns.specs.Turns.{cost_of}
 
 pub cost_most : (send : Send) (len : ℕ) → cost_of send len ≤ 4 + len

@@ -1,5 +1,5 @@
 -- A turn: the right-hand side of a row applied to a record (01, "Events").
-use Rattle.std.specs.Prelude.{ℕ, ◌+◌, Bool, true, false, List, [], get_or, ltb, eqb}
+use Rattle.std.specs.Prelude.{ℕ, ◌+◌, Bool, true, false, List, ltb, eqb}
 use Rattle.base_lists.specs.Seq.{pick}
 use Rattle.table_record.specs.Record.{class_of, sent_most}
 use Rattle.table_record.specs.declared.State.{State}
@@ -13,15 +13,10 @@ use Rattle.row_events.specs.declared.Opening.{Opening}
 use Rattle.row_columns.specs.declared.Next.{Next}
 use Rattle.row_columns.specs.declared.Next.TheVariants.{Stays, Ends, Goes}
 use Rattle.row_columns.specs.declared.Timer.{Timer}
-use Rattle.row_columns.specs.declared.Timer.TheVariants as Timer
 use Rattle.row_columns.specs.declared.Count.{Count}
-use Rattle.row_columns.specs.declared.Count.TheVariants as Count
 use Rattle.row_columns.specs.declared.Mark.{Mark}
-use Rattle.row_columns.specs.declared.Mark.TheVariants as Mark
 use Rattle.row_columns.specs.declared.ExitInfo.{ExitInfo}
-use Rattle.row_columns.specs.declared.ExitInfo.TheVariants as ExitInfo
 use Rattle.row_columns.specs.declared.Send.{Send}
-use Rattle.row_columns.specs.declared.Send.TheVariants as Send
 use Rattle.row_columns.specs.declared.Act.{Act}
 use Rattle.row_entries.specs.Acts.{act_of, opening_act}
 use Rattle.table_tids.specs.Tids.{interval_of}

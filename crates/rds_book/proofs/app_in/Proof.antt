@@ -12,4 +12,4 @@ app_in_spec =
     tie.close (tie.spec
     (λ c. search rules) (λ c. search rules) (λ c. search rules) (λ c κs. search rules) (λ c. search rules)
     (λ c. search rules) (λ c. search rules) (λ c. search rules)
-    (λ c. rw (add-sub_cancel_left, c.before.app-length.ensures.0) refl))
+    (λ c. rw (add-sub_cancel_left, c.before.app_length-n.ensures.0) refl))

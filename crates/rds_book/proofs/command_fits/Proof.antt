@@ -10,8 +10,8 @@ unfolding command_fits
 command_fits_spec =
     tie.close (tie.spec
     (λ c κs. search rules)
-    (λ c. simp (le-ltb _ _ c.before.if4.true, le-leb _ _ c.before.if4.true, le-ltb _ _ c.before.before.before.if3.true, le-leb _ _ c.before.before.before.if3.true, le-ltb _ _ c.before.before.before.before.before.if2.true, le-leb _ _ c.before.before.before.before.before.if2.true, c.before.before.before.before.before.before.before.if1.true, ← c.before.before.before.before.before.before.before.before.is-action.ensures))
-    (λ c. simp (lt-ltb _ _ c.if4.false, lt-leb _ _ c.if4.false, le-ltb _ _ c.before.before.if3.true, le-leb _ _ c.before.before.if3.true, le-ltb _ _ c.before.before.before.before.if2.true, le-leb _ _ c.before.before.before.before.if2.true, c.before.before.before.before.before.before.if1.true, ← c.before.before.before.before.before.before.before.is-action.ensures))
-    (λ c. simp (lt-ltb _ _ c.if3.false, lt-leb _ _ c.if3.false, le-ltb _ _ c.before.before.if2.true, le-leb _ _ c.before.before.if2.true, c.before.before.before.before.if1.true, ← c.before.before.before.before.before.is-action.ensures))
-    (λ c. simp (lt-ltb _ _ c.if2.false, lt-leb _ _ c.if2.false, c.before.before.if1.true, ← c.before.before.before.is-action.ensures))
-    (λ c. simp (c.if1.false, ← c.before.is-action.ensures)))
+    (λ c. simp (le-ltb _ _ c.before.if-x-le15-2.true, le-leb _ _ c.before.if-x-le15-2.true, le-ltb _ _ c.before.before.before.if-x-le15.true, le-leb _ _ c.before.before.before.if-x-le15.true, le-ltb _ _ c.before.before.before.before.before.if-x-ge1.true, le-leb _ _ c.before.before.before.before.before.if-x-ge1.true, c.before.before.before.before.before.before.before.if-is_action.true, ← c.before.before.before.before.before.before.before.before.is_action.ensures))
+    (λ c. simp (lt-ltb _ _ c.if-x-le15-2.false, lt-leb _ _ c.if-x-le15-2.false, le-ltb _ _ c.before.before.if-x-le15.true, le-leb _ _ c.before.before.if-x-le15.true, le-ltb _ _ c.before.before.before.before.if-x-ge1.true, le-leb _ _ c.before.before.before.before.if-x-ge1.true, c.before.before.before.before.before.before.if-is_action.true, ← c.before.before.before.before.before.before.before.is_action.ensures))
+    (λ c. simp (lt-ltb _ _ c.if-x-le15.false, lt-leb _ _ c.if-x-le15.false, le-ltb _ _ c.before.before.if-x-ge1.true, le-leb _ _ c.before.before.if-x-ge1.true, c.before.before.before.before.if-is_action.true, ← c.before.before.before.before.before.is_action.ensures))
+    (λ c. simp (lt-ltb _ _ c.if-x-ge1.false, lt-leb _ _ c.if-x-ge1.false, c.before.before.if-is_action.true, ← c.before.before.before.is_action.ensures))
+    (λ c. simp (c.if-is_action.false, ← c.before.is_action.ensures)))

@@ -8,6 +8,6 @@ pub is_action_spec : {M : Type 1} → statement M
 unfolding is_action
 is_action_spec =
     tie.close (tie.spec
-    (λ c. simp (eq-eqb _ _ c.if1.true))
-    (λ c. simp (eq-eqb _ _ c.if2.true, ne_eqb _ _ c.before.if1.false))
-    (λ c. simp (ne_eqb _ _ c.if2.false, ne_eqb _ _ c.before.if1.false)))
+    (λ c. simp (eq-eqb _ _ c.if-action-eq1.true))
+    (λ c. simp (eq-eqb _ _ c.if-action-eq2.true, ne_eqb _ _ c.before.if-action-eq1.false))
+    (λ c. simp (ne_eqb _ _ c.if-action-eq2.false, ne_eqb _ _ c.before.if-action-eq1.false)))

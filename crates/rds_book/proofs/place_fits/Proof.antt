@@ -10,6 +10,6 @@ unfolding fits
 place_fits_spec =
     tie.close (tie.spec
     (λ c κs. search rules)
-    (λ c. simp (c.command-fits.ensures, eq-eqb _ _ c.before.if1.true))
+    (λ c. simp (c.command_fits.ensures, eq-eqb _ _ c.before.if-p-eq0.true))
     (λ c κs. search rules)
-    (λ c. simp (c.port-fits.ensures, ne_eqb _ _ c.before.if1.false)))
+    (λ c. simp (c.port_fits.ensures, ne_eqb _ _ c.before.if-p-eq0.false)))

@@ -10,8 +10,8 @@ unfolding place_ok app_fits
 place_ok_spec =
     tie.close (tie.spec
     (λ c. search rules) (λ c. search rules) (λ c κs. search rules) (λ c κs. search rules)
-    (λ c. simp (c.zero-from.ensures, eq-eqb _ _ c.before.if1.true, ← c.before.before.before.place_at.ensures))
+    (λ c. simp (c.zero_from.ensures, eq-eqb _ _ c.before.if-x-eq0.true, ← c.before.before.before.place_at-x.ensures))
     (λ c κs. search rules) (λ c κs. search rules) (λ c. search rules) (λ c. search rules) (λ c. search rules)
     (λ c κs. search rules)
-    (λ c. simp (c.zero-from2.ensures, c.before.app-length.ensures.0, le-leb _ _ (rw c.before.app-length.ensures.0 at c.before.app-length.ensures.1), c.before.before.if2.true, ← c.before.before.before.place-fits.ensures, ne_eqb _ _ c.before.before.before.before.if1.false, ← c.before.before.before.before.before.before.place_at.ensures))
-    (λ c. simp (c.if2.false, ← c.before.place-fits.ensures, ne_eqb _ _ c.before.before.if1.false, ← c.before.before.before.before.place_at.ensures)))
+    (λ c. simp (c.zero_from-then-place_fits.ensures, c.before.app_length-n.ensures.0, le-leb _ _ (rw c.before.app_length-n.ensures.0 at c.before.app_length-n.ensures.1), c.before.before.if-place_fits.true, ← c.before.before.before.place_fits.ensures, ne_eqb _ _ c.before.before.before.before.if-x-eq0.false, ← c.before.before.before.before.before.before.place_at-x.ensures))
+    (λ c. simp (c.if-place_fits.false, ← c.before.place_fits.ensures, ne_eqb _ _ c.before.before.if-x-eq0.false, ← c.before.before.before.before.place_at-x.ensures)))

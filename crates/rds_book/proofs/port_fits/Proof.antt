@@ -8,7 +8,7 @@ pub port_fits_spec : {M : Type 1} → statement M
 unfolding port_fits
 port_fits_spec =
     tie.close (tie.spec
-    (λ c. simp (le-ltb _ _ c.before.if3.true, le-leb _ _ c.before.if3.true, eq-eqb _ _ c.before.before.before.if2.true, le-ltb _ _ c.before.before.before.before.before.if1.true, le-leb _ _ c.before.before.before.before.before.if1.true))
-    (λ c. simp (lt-ltb _ _ c.if3.false, lt-leb _ _ c.if3.false, eq-eqb _ _ c.before.before.if2.true, le-ltb _ _ c.before.before.before.before.if1.true, le-leb _ _ c.before.before.before.before.if1.true))
-    (λ c. simp (ne_eqb _ _ c.if2.false, le-ltb _ _ c.before.before.if1.true, le-leb _ _ c.before.before.if1.true))
-    (λ c. simp (lt-ltb _ _ c.if1.false, lt-leb _ _ c.if1.false)))
+    (λ c. simp (le-ltb _ _ c.before.if-x-le15.true, le-leb _ _ c.before.if-x-le15.true, eq-eqb _ _ c.before.before.before.if-x-eq0.true, le-ltb _ _ c.before.before.before.before.before.if-x-le2.true, le-leb _ _ c.before.before.before.before.before.if-x-le2.true))
+    (λ c. simp (lt-ltb _ _ c.if-x-le15.false, lt-leb _ _ c.if-x-le15.false, eq-eqb _ _ c.before.before.if-x-eq0.true, le-ltb _ _ c.before.before.before.before.if-x-le2.true, le-leb _ _ c.before.before.before.before.if-x-le2.true))
+    (λ c. simp (ne_eqb _ _ c.if-x-eq0.false, le-ltb _ _ c.before.before.if-x-le2.true, le-leb _ _ c.before.before.if-x-le2.true))
+    (λ c. simp (lt-ltb _ _ c.if-x-le2.false, lt-leb _ _ c.if-x-le2.false)))

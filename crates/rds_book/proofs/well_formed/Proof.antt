@@ -10,7 +10,7 @@ unfolding well_formed
 well_formed_spec =
     tie.close (tie.spec
     (λ c. search rules) (λ c. search rules) (λ c κs. search rules)
-    (λ c. simp (c.places-ok.ensures, le-ltb _ _ c.before.if3.true, le-leb _ _ c.before.if3.true, le-ltb _ _ c.before.before.before.if2.true, le-leb _ _ c.before.before.before.if2.true, eq-eqb _ _ c.before.before.before.before.before.if1.true))
-    (λ c. simp (lt-ltb _ _ c.if3.false, lt-leb _ _ c.if3.false, le-ltb _ _ c.before.before.if2.true, le-leb _ _ c.before.before.if2.true, eq-eqb _ _ c.before.before.before.before.if1.true))
-    (λ c. simp (lt-ltb _ _ c.if2.false, lt-leb _ _ c.if2.false, eq-eqb _ _ c.before.before.if1.true))
-    (λ c. simp (ne_eqb _ _ c.if1.false)))
+    (λ c. simp (c.places_ok.ensures, le-ltb _ _ c.before.if-book-le7.true, le-leb _ _ c.before.if-book-le7.true, le-ltb _ _ c.before.before.before.if-book-le1.true, le-leb _ _ c.before.before.before.if-book-le1.true, eq-eqb _ _ c.before.before.before.before.before.if-book-eq-BOOK_SIZE.true))
+    (λ c. simp (lt-ltb _ _ c.if-book-le7.false, lt-leb _ _ c.if-book-le7.false, le-ltb _ _ c.before.before.if-book-le1.true, le-leb _ _ c.before.before.if-book-le1.true, eq-eqb _ _ c.before.before.before.before.if-book-eq-BOOK_SIZE.true))
+    (λ c. simp (lt-ltb _ _ c.if-book-le1.false, lt-leb _ _ c.if-book-le1.false, eq-eqb _ _ c.before.before.if-book-eq-BOOK_SIZE.true))
+    (λ c. simp (ne_eqb _ _ c.if-book-eq-BOOK_SIZE.false)))

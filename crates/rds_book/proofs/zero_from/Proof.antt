@@ -13,28 +13,28 @@ use Rattle.rds_book.specs.Book.{zeros}
 use Rattle.rds_book.proofs.zero_from.Statement.{statement}
 use Rattle.rds_book.proofs.zero_from.Tie as tie
 
-abbrev invariant-loop : tie.invariant-loop
-invariant-loop book at n bits₀ i₀ bits i = (i ≤ n) × (eqb bits 0 ≡ zeros book at i)
+abbrev invariant-loop-i : tie.invariant-loop-i
+invariant-loop-i book at n bits₀ i₀ bits i = (i ≤ n) × (eqb bits 0 ≡ zeros book at i)
 
-abbrev decreases-loop : tie.decreases-loop
-decreases-loop book at n bits₀ i₀ bits i = n - i
+abbrev decreases-loop-i : tie.decreases-loop-i
+decreases-loop-i book at n bits₀ i₀ bits i = n - i
 
-loop_again : tie.Need-loop-preserved invariant-loop decreases-loop
+loop_again : tie.Need-loop-i-preserved invariant-loop-i decreases-loop-i
 unfolding zeros every
 loop_again c =
     let a = c.before.before.before.args in
-    let l = c.before.before.loop in
+    let l = c.before.before.loop-i in
     (search rules, rw (add-one, or_comm) (or_none (get_or a.book.now (a.at + l.i) 0) l.bits ∙ rw l.invariant.1 refl))
 
-returns : tie.Need-returns invariant-loop decreases-loop
+returns : tie.Need-returns invariant-loop-i decreases-loop-i
 returns c =
-    let e : c.before.loop.i ≡ c.before.before.args.n = omega arith in
-    rw e at c.before.loop.invariant.1
+    let e : c.before.loop-i.i ≡ c.before.before.args.n = omega arith in
+    rw e at c.before.loop-i.invariant.1
 
 pub zero_from_spec : {M : Type 1} → statement M
 unfolding zeros every
 zero_from_spec =
     tie.close (tie.spec
-    invariant-loop decreases-loop
+    invariant-loop-i decreases-loop-i
     (λ c. (search rules, refl))
     (λ c. search rules) (λ c. search rules) (λ c. search rules) (λ c. search rules) loop_again returns)

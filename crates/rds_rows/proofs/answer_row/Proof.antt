@@ -8,8 +8,8 @@ pub answer_row_spec : {M : Type 1} → statement M
 unfolding answer_row
 answer_row_spec =
     tie.close (tie.spec
-    (λ c. simp (eq-eqb _ _ c.if2.true, c.before.if1.true))
-    (λ c. simp (eq-eqb _ _ c.if3.true, ne_eqb _ _ c.before.if2.false, c.before.before.if1.true))
-    (λ c. simp (ne_eqb _ _ c.if3.false, ne_eqb _ _ c.before.if2.false, c.before.before.if1.true))
-    (λ c. simp (eq-eqb _ _ c.if4.true, c.before.if1.false))
-    (λ c. simp (ne_eqb _ _ c.if4.false, c.before.if1.false)))
+    (λ c. simp (eq-eqb _ _ c.if-status-eq0.true, c.before.if-release.true))
+    (λ c. simp (eq-eqb _ _ c.if-status-eq2.true, ne_eqb _ _ c.before.if-status-eq0.false, c.before.before.if-release.true))
+    (λ c. simp (ne_eqb _ _ c.if-status-eq2.false, ne_eqb _ _ c.before.if-status-eq0.false, c.before.before.if-release.true))
+    (λ c. simp (eq-eqb _ _ c.if-status-eq0-2.true, c.before.if-release.false))
+    (λ c. simp (ne_eqb _ _ c.if-status-eq0-2.false, c.before.if-release.false)))

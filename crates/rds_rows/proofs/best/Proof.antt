@@ -9,9 +9,9 @@ unfolding best
 best_spec =
     tie.close (tie.spec
     (λ c κs. search rules)
-    (λ c. simp (c.if1.true, ← c.before.shared.ensures))
+    (λ c. simp (c.if-shared.true, ← c.before.shared.ensures))
     (λ c κs. search rules)
-    (λ c. simp (c.if2.true, ← c.before.shared2.ensures, c.before.before.if1.false, ← c.before.before.before.shared.ensures))
+    (λ c. simp (c.if-shared-2.true, ← c.before.shared-2.ensures, c.before.before.if-shared.false, ← c.before.before.before.shared.ensures))
     (λ c κs. search rules)
-    (λ c. simp (c.if3.true, ← c.before.shared3.ensures, c.before.before.if2.false, ← c.before.before.before.shared2.ensures, c.before.before.before.before.if1.false, ← c.before.before.before.before.before.shared.ensures))
-    (λ c. simp (c.if3.false, ← c.before.shared3.ensures, c.before.before.if2.false, ← c.before.before.before.shared2.ensures, c.before.before.before.before.if1.false, ← c.before.before.before.before.before.shared.ensures)))
+    (λ c. simp (c.if-shared-3.true, ← c.before.shared-3.ensures, c.before.before.if-shared-2.false, ← c.before.before.before.shared-2.ensures, c.before.before.before.before.if-shared.false, ← c.before.before.before.before.before.shared.ensures))
+    (λ c. simp (c.if-shared-3.false, ← c.before.shared-3.ensures, c.before.before.if-shared-2.false, ← c.before.before.before.shared-2.ensures, c.before.before.before.before.if-shared.false, ← c.before.before.before.before.before.shared.ensures)))

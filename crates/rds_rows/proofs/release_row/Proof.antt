@@ -7,6 +7,6 @@ pub release_row_spec : {M : Type 1} → statement M
 unfolding release_row
 release_row_spec =
     tie.close (tie.spec
-    (λ c. simp (c.if2.true, c.before.if1.true))
-    (λ c. simp (c.if2.false, c.before.if1.true))
-    (λ c. simp c.if1.false))
+    (λ c. simp (c.if-held.true, c.before.if-mine.true))
+    (λ c. simp (c.if-held.false, c.before.if-mine.true))
+    (λ c. simp c.if-mine.false))

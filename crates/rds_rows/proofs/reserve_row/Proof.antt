@@ -7,9 +7,9 @@ pub reserve_row_spec : {M : Type 1} → statement M
 unfolding reserve_row
 reserve_row_spec =
     tie.close (tie.spec
-    (λ c. simp c.if1.true)
-    (λ c. simp (c.if3.true, c.before.if2.true, c.before.before.if1.false))
-    (λ c. simp (c.if4.true, c.before.if3.false, c.before.before.if2.true, c.before.before.before.if1.false))
-    (λ c. simp (c.if4.false, c.before.if3.false, c.before.before.if2.true, c.before.before.before.if1.false))
-    (λ c. simp (c.if5.true, c.before.if2.false, c.before.before.if1.false))
-    (λ c. simp (c.if5.false, c.before.if2.false, c.before.before.if1.false)))
+    (λ c. simp c.if-again.true)
+    (λ c. simp (c.if-taken.true, c.before.if-mine.true, c.before.before.if-again.false))
+    (λ c. simp (c.if-none.true, c.before.if-taken.false, c.before.before.if-mine.true, c.before.before.before.if-again.false))
+    (λ c. simp (c.if-none.false, c.before.if-taken.false, c.before.before.if-mine.true, c.before.before.before.if-again.false))
+    (λ c. simp (c.if-none-2.true, c.before.if-mine.false, c.before.before.if-again.false))
+    (λ c. simp (c.if-none-2.false, c.before.if-mine.false, c.before.before.if-again.false)))

@@ -8,5 +8,5 @@ pub shared_spec : {M : Type 1} → statement M
 unfolding common
 shared_spec =
     tie.close (tie.spec
-    (λ c. simp (eq-eqb _ _ c.if1.true))
-    (λ c. simp (ne_eqb _ _ c.if1.false)))
+    (λ c. simp (eq-eqb _ _ c.if-o-eq1.true))
+    (λ c. simp (ne_eqb _ _ c.if-o-eq1.false)))
