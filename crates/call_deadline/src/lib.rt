@@ -1,5 +1,6 @@
 // The next deadline: told, with nothing changed but the words that it is told in.
 #![tactic(auto)]
+
 ghost use Rattle.std.specs.Prelude.{◌≡◌};
 ghost use Rattle.table_finding.specs.Finding.{Within};
 ghost use Rattle.call_deadline.specs.Deadlines.{due_words, deadline_number, due_after};

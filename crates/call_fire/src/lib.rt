@@ -1,5 +1,6 @@
 // Which record a firing by name fires, and what it is refused for.
 #![tactic(auto)]
+
 ghost use Rattle.std.specs.Prelude.{◌≡◌};
 ghost use Rattle.table_finding.specs.Finding.{Within};
 ghost use Rattle.call_fire.specs.Fires.{as_fire, named_place, fire_place};

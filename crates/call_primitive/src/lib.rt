@@ -1,5 +1,6 @@
 // What a user's answer, result or abort is refused for, and what an accepted one brings: the three primitives that name a record.
 #![tactic(auto)]
+
 ghost use Rattle.std.specs.Prelude.{◌≡◌, ◌+◌, ◌*◌, ◌≤◌, length};
 ghost use Rattle.base_layout.specs.Layout.{header_size, record_size, exit_bound, cell_size};
 ghost use Rattle.table_finding.specs.Finding.{Within};

@@ -1,5 +1,6 @@
 // What a received PDU is refused for, and what an accepted one brings.
 #![tactic(auto)]
+
 ghost use Rattle.std.specs.Prelude.{◌≡◌, ◌+◌, ◌*◌, ◌≤◌, length};
 ghost use Rattle.base_layout.specs.Layout.{header_size, record_size};
 ghost use Rattle.codec_pdu.specs.Brief.{as_pdu};

@@ -1,5 +1,6 @@
 // What a request is refused for, and what an accepted one brings.
 #![tactic(auto)]
+
 ghost use Rattle.std.specs.Prelude.{◌≡◌, ◌≤◌, length};
 ghost use Rattle.base_layout.specs.Layout.{header_size, cell_size};
 ghost use Rattle.table_well_formed.specs.WellFormed.{WellFormed};

@@ -1,5 +1,6 @@
 // A frame from the peer: the book, what is sent, and the answer.
 #![tactic(auto)]
+
 ghost use Rattle.std.specs.Prelude.{◌≡◌, ◌≤◌, length};
 ghost use Rattle.base_lists.specs.Seq.{put};
 ghost use Rattle.rds_book.specs.Book.{book_size, app_most};
