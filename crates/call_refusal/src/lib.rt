@@ -1,5 +1,6 @@
 // Refusals: what every call judges before it does anything.
 #![tactic(auto)]
+
 ghost use Rattle.std.specs.Prelude.{◌≡◌, ◌≤◌, length};
 ghost use Rattle.base_layout.specs.Layout.{header_size};
 ghost use Rattle.call_refusal.specs.Judging.{lowest, late_of, first_tests, peer_tests};
@@ -33,6 +34,7 @@ fn late(t: &[u8], time: u64) -> bool
 }
 
 // The lower of the numbers 1 and 2 that applies: every call is judged by them first.
+#[tactic(auto, using(crate::proofs::Fits::header_there), unfolding(crate::specs::Judging::lowest))]
 pub fn entry(t: &[u8], store: usize, output: usize, time: u64) -> Judged
     ensures { result ≡ lowest (first_tests t.now store output time) }
 {

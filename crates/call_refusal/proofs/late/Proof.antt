@@ -10,5 +10,5 @@ unfolding late_of
 late_spec =
     tie.close (tie.spec
     (λ c κs. search rules)
-    (λ c. simp (lt-ltb _ _ c.if1.true, ← c.before.clock-of.ensures))
-    (λ c. simp (le-ltb _ _ c.if1.false, ← c.before.clock-of.ensures)))
+    (λ c. simp (lt-ltb _ _ c.if-time-clock_of.true, ← c.before.clock_of.ensures))
+    (λ c. simp (le-ltb _ _ c.if-time-clock_of.false, ← c.before.clock_of.ensures)))
