@@ -1,5 +1,6 @@
 // The words that the C interface has for the answer of an engine call: 32 of the turn, two of what its record has sent, and six that the requests of document 02 added.
 #![tactic(auto)]
+
 ghost use Rattle.std.specs.Prelude.{◌≡◌, [], ◌∷◌, ◌+◌, ◌≤◌, ◌<◌, length};
 ghost use Rattle.base_layout.specs.Layout.{records_bound, answer_size};
 ghost use Rattle.base_lists.specs.Seq.{put};
@@ -66,6 +67,7 @@ fn head_words(sent: usize, told: Told, first: Indication, second: Indication) ->
 }
 
 // Words 28 to 31: role, peer and TID of the record that was fired.
+#[tactic(auto, unfolding(crate::specs::Answers::record_words))]
 fn record_words(told: Told) -> [u64; 4]
     ensures { result ≡ record_words told }
 {
@@ -77,6 +79,7 @@ fn record_words(told: Told) -> [u64; 4]
 }
 
 // The words of what an indication shows; those of none are zeros at once.
+#[tactic(auto, using(crate::proofs::Words::none_shown))]
 fn store_shown(answer: &mut [u64], at: usize, i: Indication, c: Context)
     requires { at + 12 ≤ length answer.old }
     ensures { answer.new ≡ put answer.old at (shown_words (shown_of i c)) }
@@ -91,6 +94,7 @@ fn store_shown(answer: &mut [u64], at: usize, i: Indication, c: Context)
     }
 }
 
+#[tactic(auto, using(step_shown::proofs::Back::twelve_words, crate::proofs::Words::four_stores, crate::proofs::Words::head_shown, crate::proofs::Words::head_length), unfolding(crate::specs::Answers::answer_words))]
 fn store_answer(
     answer: &mut [u64],
     sent: usize,
@@ -111,6 +115,7 @@ fn store_answer(
 }
 
 // A responder's record tells nothing.
+#[tactic(auto, unfolding(crate::specs::Answers::role_cost))]
 fn role_cost(role: Role, sent: u32, ended: bool) -> Cost
     ensures { result ≡ role_cost role sent ended }
 {
@@ -141,6 +146,7 @@ pub fn no_cost() -> Cost
 }
 
 // What a change of a record tells; `was` is the record before it.
+#[tactic(auto, unfolding(crate::specs::Answers::change_cost))]
 pub fn change_cost(change: Change, was: Record) -> Cost
     ensures { result ≡ change_cost change was }
 {
@@ -152,6 +158,7 @@ pub fn change_cost(change: Change, was: Record) -> Cost
 }
 
 // Words 32 and 33.
+#[tactic(auto, unfolding(crate::specs::Answers::cost_words))]
 pub fn report(answer: &mut [u64], cost: Cost)
     requires { 34 ≤ length answer.old }
     ensures { answer.new ≡ put answer.old 32 (cost_words cost) }
@@ -161,6 +168,7 @@ pub fn report(answer: &mut [u64], cost: Cost)
 }
 
 // Words 34 to 39 of an accepted call, in which the first unknown item of its PDU is told; gives the call's result on.
+#[tactic(auto, unfolding(crate::specs::Answers::more_words, crate::specs::Answers::told_after))]
 pub fn tell(answer: &mut [u64], res: u64, item: Unknown) -> u64
     requires { answer_size ≤ length answer.old }
     ensures { (result ≡ res) × (answer.new ≡ told_after res answer.old (more_words item)) }

@@ -43,7 +43,7 @@ pub fn invoke_octet(version: u8, tidnew: bool, up: bool, class: u8) -> u8
 }
 
 // Stores what stands after the TID, from place 3 of the output; the place after it.
-#[tactic(auto, using(crate::proofs::Nacks::list_inside, crate::proofs::Nacks::nack_length, crate::proofs::Nacks::nack_stored), unfolding(crate::specs::Write::FitKind, crate::specs::Write::extra_of, base_lists::specs::Seq::put))]
+#[tactic(auto, using(crate::proofs::Nacks::nack_length, crate::proofs::Nacks::nack_stored), unfolding(crate::specs::Write::FitKind, crate::specs::Write::extra_of, base_lists::specs::Seq::put))]
 fn put_extra(out: &mut [u8], src: &[u8], kind: Kind) -> usize
     requires fit_kind { FitKind src.now kind }
     requires kind_in_bounds { 3 + length (extra_of src.now kind) ≤ length out.old }
@@ -99,7 +99,6 @@ pub fn put_header(out: &mut [u8], src: &[u8], con: bool, kind: Kind, tid: SendTi
 }
 
 // Stores an item, whose data lies in src, from `at` on; the place after it.
-#[tactic(auto, using(crate::proofs::ItemOctets::long_octets, crate::proofs::ItemOctets::short_octets, crate::proofs::ItemOctets::long_length, crate::proofs::ItemOctets::short_length), unfolding(base_lists::specs::Seq::put))]
 pub fn put_item(out: &mut [u8], at: usize, src: &[u8], it: Item, con: bool) -> usize
     requires fit_item { FitItem src.now it }
     requires it_in_bounds { at + length (item_octets src.now con it) ≤ length out.old }

@@ -7,16 +7,13 @@ use mathlib.Core.List.{List}
 use borrow.Author.Tests.{eqb-true}
 use lib.Dec.{eqb}
 use Rattle.base_lists.specs.Seq.{pick, every}
-use Rattle.base_lists.proofs.StoresAndParts.{true_false}
 use Rattle.table_record.specs.declared.State.{State}
-use Rattle.table_record.specs.declared.State.TheVariants as State
 use Rattle.table_record.specs.declared.Record.{Record}
 use Rattle.table_layout.specs.declared.Settings.{Settings}
 use Rattle.row_events.specs.declared.Conditions.{Conditions}
 use Rattle.row_events.specs.declared.Event.TheVariants as Event
 use Rattle.row_events.specs.declared.Opening.{Opening}
 use Rattle.row_events.specs.declared.Row.{Row}
-use Rattle.row_events.specs.declared.Row.TheVariants as Row
 use Rattle.row_events.proofs.Finite.{all_rows, at_row, at_opening}
 use Rattle.row_choice.specs.Rows.{row_of}
 use Rattle.row_columns.specs.Columns.{user, act_with, taken, acked, stored, shown}

@@ -24,7 +24,6 @@ use Rattle.row_columns.specs.Columns.{act_with, taken, acked, stored, shown}
 use Rattle.row_columns.specs.declared.Next.{Next}
 use Rattle.row_columns.specs.declared.Next.TheVariants.{Stays, Ends, Goes}
 use Rattle.row_columns.specs.declared.Count.{Count}
-use Rattle.row_columns.specs.declared.Count.TheVariants as Count
 use Rattle.row_columns.specs.declared.Act.{Act}
 use Rattle.row_entries.specs.Acts.{act_of, opening_act}
 use Rattle.row_turns.specs.Turns.{hold_on_after}

@@ -21,7 +21,6 @@ use Rattle.table_record_ok.specs.OneRecord.{Live, Bounded}
 use Rattle.row_events.specs.declared.Event.{Event}
 use Rattle.row_events.specs.declared.Conditions.{Conditions}
 use Rattle.row_events.specs.declared.Opening.{Opening}
-use Rattle.row_events.specs.declared.Opening.TheVariants as Opening
 use Rattle.row_events.proofs.Finite.{at_state}
 use Rattle.row_choice.specs.Rows.{row_of}
 use Rattle.row_conditions.specs.Conditions.{conditions_of}
@@ -29,9 +28,7 @@ use Rattle.row_columns.specs.Columns.{act_with, taken, acked, stored, sent, show
 use Rattle.row_columns.specs.declared.Next.{Next}
 use Rattle.row_columns.specs.declared.Next.TheVariants.{Stays, Ends, Goes}
 use Rattle.row_columns.specs.declared.Count.{Count}
-use Rattle.row_columns.specs.declared.Count.TheVariants as Count
 use Rattle.row_columns.specs.declared.Send.{Send}
-use Rattle.row_columns.specs.declared.Send.TheVariants as Send
 use Rattle.row_columns.specs.declared.Act.{Act}
 use Rattle.row_entries.specs.Acts.{act_of, opening_act}
 use Rattle.row_turns.specs.Turns.{rcr_after, len_after, cost_of, sent_after, new_record, moved_to, record_after, turn_of, row_turn, opening_turn}

@@ -12,7 +12,6 @@ use Rattle.table_record.specs.declared.State.TheVariants.{Free, IResultWait1, IR
 use Rattle.table_ranges.proofs.Tests.{Each}
 use Rattle.row_columns.specs.declared.Act.{Act}
 use Rattle.row_columns.specs.declared.Count.{Count}
-use Rattle.row_columns.specs.declared.Count.TheVariants as Count
 use Rattle.law_counting.specs.Counting.{Counts, none, plus, counts_in, Limits}
 use Rattle.law_counting.proofs.Acts.{added, asks, answers, agrees, kept_tests, end_tests}
 

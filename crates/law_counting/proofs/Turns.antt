@@ -24,7 +24,6 @@ use Rattle.row_columns.specs.Columns.{act_with, stored, shown}
 use Rattle.row_columns.specs.declared.Next.{Next}
 use Rattle.row_columns.specs.declared.Next.TheVariants.{Stays, Ends, Goes}
 use Rattle.row_columns.specs.declared.Count.{Count}
-use Rattle.row_columns.specs.declared.Count.TheVariants as Count
 use Rattle.row_columns.specs.declared.Act.{Act}
 use Rattle.row_entries.specs.Acts.{opening_act}
 use Rattle.row_turns.specs.Turns.{rcr_after, hold_on_after, new_record, moved_to, record_after, turn_of, row_turn, opening_turn}

@@ -7,9 +7,7 @@ use Rattle.table_record.specs.declared.Record.{Record}
 use Rattle.table_record_ok.specs.OneRecord.{Live}
 use Rattle.row_columns.specs.Columns.{user}
 use Rattle.row_columns.specs.declared.Send.{Send}
-use Rattle.row_columns.specs.declared.Send.TheVariants as Send
 use Rattle.row_columns.specs.declared.Indication.{Indication}
-use Rattle.row_columns.specs.declared.Indication.TheVariants as Indication
 use Rattle.row_turns.specs.Turns.{new_record}
 use Rattle.row_turns.specs.declared.Turn.{Turn}
 

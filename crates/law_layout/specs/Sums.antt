@@ -1,5 +1,5 @@
 -- The layout and the bounds once more: where each field begins, by the octets of those before it, and each bound by what it comes from.
-use Rattle.std.specs.Prelude.{ℕ, ◌+◌, ◌*◌, ◌≡◌}
+use Rattle.std.specs.Prelude.{◌+◌, ◌*◌, ◌≡◌}
 use Rattle.base_layout.specs.Layout.{header_size, record_size, clock_at, gen_tid_at, rcr_max_at, aec_max_at, a_at, w_at, row1_at, row2_at, limit_at, modes_at, tidnew_due_at, header_spare_at, header_spare_size, cached_at, peer_offset, tid_offset, rcr_offset, aec_offset, flags_offset, exit_len_offset, deadline_offset, len_offset, limit_offset, unknown_offset, sent_offset, spare_offset, spare_size, exit_offset, exit_bound, time_bound, interval_bound, deadline_bound, tid_bound, tid_count, cached_bound, peer_bound, peers, cell_size, output_least, state_bound, flags_bound}
 
 -- docs/TABLE.md, the header: clock 8 octets, GenTID 2, RCR_MAX 1, AEC_MAX 1, A 4, W 4, two rows of nine intervals of 4, the waiting limit 4, modes 1, TIDnew due 1, spare, 256 cached TIDs of 2

@@ -29,11 +29,8 @@ use Rattle.row_columns.specs.Columns.{act_with, taken, acked, stored, shown}
 use Rattle.row_columns.specs.declared.Next.{Next}
 use Rattle.row_columns.specs.declared.Next.TheVariants.{Stays, Ends, Goes}
 use Rattle.row_columns.specs.declared.Timer.{Timer}
-use Rattle.row_columns.specs.declared.Timer.TheVariants as Timer
 use Rattle.row_columns.specs.declared.Count.{Count}
-use Rattle.row_columns.specs.declared.Count.TheVariants as Count
 use Rattle.row_columns.specs.declared.ExitInfo.{ExitInfo}
-use Rattle.row_columns.specs.declared.ExitInfo.TheVariants as ExitInfo
 use Rattle.row_columns.specs.declared.Act.{Act}
 use Rattle.row_entries.specs.Acts.{act_of, opening_act}
 use Rattle.table_tids.specs.Tids.{interval_of}

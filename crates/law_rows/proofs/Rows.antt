@@ -18,7 +18,6 @@ use Rattle.row_events.proofs.Finite.{all_rows, at_state, at_row, at_opening}
 use Rattle.row_choice.specs.Rows.{row_of}
 use Rattle.row_columns.specs.Columns.{act_with, taken, acked, stored, shown}
 use Rattle.row_columns.specs.declared.Send.{Send}
-use Rattle.row_columns.specs.declared.Send.TheVariants as Send
 use Rattle.row_entries.specs.Acts.{act_of, opening_act}
 use Rattle.law_rows.specs.Shown.{act_at, shows_abort, shows_result, takes_result, living_state, counts_rcr, sent_after_first, SendProper}
 

@@ -5,18 +5,14 @@ use Rattle.table_record.specs.declared.State.{State}
 use Rattle.table_record.specs.declared.State.TheVariants.{IResultWait2}
 use Rattle.row_events.specs.Events.{event_number}
 use Rattle.row_events.specs.declared.Event.{Event}
-use Rattle.row_events.specs.declared.Event.TheVariants as Event
 use Rattle.row_events.specs.declared.Conditions.{Conditions}
 use Rattle.row_choice.specs.Rows.{row_of}
 use Rattle.row_entries.specs.Acts.{act_of}
 use Rattle.row_columns.specs.declared.Next.{Next}
 use Rattle.row_columns.specs.declared.Next.TheVariants.{Stays, Ends, Goes}
 use Rattle.row_columns.specs.declared.Count.{Count}
-use Rattle.row_columns.specs.declared.Count.TheVariants as Count
 use Rattle.row_columns.specs.declared.Send.{Send}
-use Rattle.row_columns.specs.declared.Send.TheVariants as Send
 use Rattle.row_columns.specs.declared.Indication.{Indication}
-use Rattle.row_columns.specs.declared.Indication.TheVariants as Indication
 use Rattle.row_columns.specs.declared.Act.{Act}
 
 -- what an event does in a state; `tidok` says whether a TIDok was sent

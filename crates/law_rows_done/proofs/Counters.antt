@@ -1,9 +1,9 @@
 -- RCR and AEC after a row are what document 01 counts: as they were, 0, or one more. Assumes nothing.
-use Prim.Native.Nat.{ℕ, ◌+◌, ◌≤◌}
+use Prim.Native.Nat.{ℕ, ◌≤◌}
 use native.Mathlib.Omega.{arith}
 use borrow.Author.Tests.{ltb-true}
 use mathlib.Core.Path.{◌≡◌, refl, ap}
-use mathlib.Core.Bool.{Bool, true}
+use mathlib.Core.Bool.{true}
 use mathlib.Core.List.{List}
 use lib.Dec.{ltb}
 use Rattle.table_record.specs.declared.Record.{Record}
@@ -16,7 +16,6 @@ use Rattle.row_conditions.specs.Conditions.{conditions_of}
 use Rattle.row_columns.specs.declared.Next.{Next}
 use Rattle.row_columns.specs.declared.Next.TheVariants.{Stays, Ends, Goes}
 use Rattle.row_columns.specs.declared.Count.{Count}
-use Rattle.row_columns.specs.declared.Count.TheVariants as Count
 use Rattle.row_columns.specs.declared.Act.{Act}
 use Rattle.row_turns.specs.Turns.{new_record, moved_to, record_after, turn_of, row_turn}
 use Rattle.row_turns.specs.declared.Given.{Given}

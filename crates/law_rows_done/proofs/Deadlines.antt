@@ -21,7 +21,6 @@ use Rattle.row_events.proofs.Finite.{at_state}
 use Rattle.row_columns.specs.declared.Next.{Next}
 use Rattle.row_columns.specs.declared.Next.TheVariants.{Stays, Ends, Goes}
 use Rattle.row_columns.specs.declared.Timer.{Timer}
-use Rattle.row_columns.specs.declared.Timer.TheVariants as Timer
 use Rattle.row_columns.specs.declared.Act.{Act}
 use Rattle.row_entries.specs.Acts.{act_of, opening_act}
 use Rattle.row_turns.specs.Turns.{stopped_at, new_record, moved_to, record_after, turn_of, row_turn, opening_turn}

@@ -11,13 +11,9 @@ use Rattle.row_events.specs.declared.Opening.{Opening}
 use Rattle.row_columns.specs.declared.Next.{Next}
 use Rattle.row_columns.specs.declared.Next.TheVariants.{Stays, Ends, Goes}
 use Rattle.row_columns.specs.declared.Count.{Count}
-use Rattle.row_columns.specs.declared.Count.TheVariants as Count
 use Rattle.row_columns.specs.declared.Timer.{Timer}
-use Rattle.row_columns.specs.declared.Timer.TheVariants as Timer
 use Rattle.row_columns.specs.declared.Send.{Send}
-use Rattle.row_columns.specs.declared.Send.TheVariants as Send
 use Rattle.row_columns.specs.declared.Indication.{Indication}
-use Rattle.row_columns.specs.declared.Indication.TheVariants as Indication
 use Rattle.row_turns.specs.declared.Given.{Given}
 use Rattle.law_rows_done.specs.Lists.{listed}
 use Rattle.law_rows_done.specs.LiveRows as Live

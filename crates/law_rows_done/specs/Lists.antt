@@ -2,7 +2,6 @@
 use Rattle.std.specs.Prelude.{ℕ, Bool, true, false, ◌||◌, List, [], ◌∷◌}
 use Rattle.base_lists.specs.Seq.{pick}
 use Rattle.row_columns.specs.declared.Send.{Send}
-use Rattle.row_columns.specs.declared.Send.TheVariants as Send
 
 -- whether a row is one of those that a line names
 abbrev pub among : {K : Type 0} → (K → K → Bool) → K → List K → Bool

@@ -8,19 +8,12 @@ use Rattle.row_events.specs.declared.Row.TheVariants.{PeerAborts, Malformed, Use
 use Rattle.row_columns.specs.declared.Next.{Next}
 use Rattle.row_columns.specs.declared.Next.TheVariants.{Stays, Ends, Goes}
 use Rattle.row_columns.specs.declared.Timer.{Timer}
-use Rattle.row_columns.specs.declared.Timer.TheVariants as Timer
 use Rattle.row_columns.specs.declared.Count.{Count}
-use Rattle.row_columns.specs.declared.Count.TheVariants as Count
 use Rattle.row_columns.specs.declared.Mark.{Mark}
-use Rattle.row_columns.specs.declared.Mark.TheVariants as Mark
 use Rattle.row_columns.specs.declared.ExitInfo.{ExitInfo}
-use Rattle.row_columns.specs.declared.ExitInfo.TheVariants as ExitInfo
 use Rattle.row_columns.specs.declared.Cache.{Cache}
-use Rattle.row_columns.specs.declared.Cache.TheVariants as Cache
 use Rattle.row_columns.specs.declared.Send.{Send}
-use Rattle.row_columns.specs.declared.Send.TheVariants as Send
 use Rattle.row_columns.specs.declared.Indication.{Indication}
-use Rattle.row_columns.specs.declared.Indication.TheVariants as Indication
 use Rattle.row_columns.specs.declared.Act.{Act}
 use Rattle.law_rows_done.specs.Lists.{listed, rid, no_rid, abort}
 

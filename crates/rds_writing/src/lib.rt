@@ -1,5 +1,6 @@
 // Writing a frame from its words (TS 24.250, clause 5): the words are judged, and then the frame is stored.
 #![tactic(auto)]
+
 ghost use Rattle.std.specs.Prelude.{◌≡◌, ◌≤◌, length};
 ghost use Rattle.rds_datagram.specs.Put.{done};
 ghost use Rattle.rds_writing.specs.Write.{same_words, is_items, accepts, write_of};
@@ -28,6 +29,7 @@ fn same_words(words: &[u64], f: Frame) -> bool
 }
 
 // Whether the information of this kind is the items of SET_PARAMETERS.
+#[tactic(auto, unfolding(crate::specs::Write::is_items))]
 fn is_items(kind: Kind) -> bool
     ensures { result ≡ is_items kind }
 {

@@ -1,5 +1,6 @@
 // What a received PDU is to the engine (01, "TIDs" and "Events"): whom it names, which event it is, what it brings.
 #![tactic(auto)]
+
 ghost use Rattle.std.specs.Prelude.{◌≡◌, ◌≤◌, length};
 ghost use Rattle.codec_items.specs.Unknown.{no_unknown};
 ghost use Rattle.codec_pdu.specs.Pdu.{unknown_of};

@@ -1,5 +1,6 @@
 // Carries an accepted call out at once: the turn, the table, the cell, the PDU, and the words of the answer.
 #![tactic(auto)]
+
 ghost use Rattle.std.specs.Prelude.{◌≡◌, ◌+◌, ◌*◌, ◌≤◌, ◌<◌, length};
 ghost use Rattle.base_layout.specs.Layout.{header_size, record_size, time_bound, tid_bound};
 ghost use Rattle.base_lists.specs.Seq.{put};

@@ -1,5 +1,6 @@
 // From a turn of a record to the changes of the table that it stands for.
 #![tactic(auto)]
+
 ghost use Rattle.std.specs.Prelude.{◌≡◌, ◌<◌};
 ghost use Rattle.base_layout.specs.Layout.{tid_count};
 ghost use Rattle.step_changes.specs.Changes.{change_of, cached_after, turn_changes};

@@ -1,5 +1,6 @@
 // Carries a call's changes out on the table, one slice at a time: nothing is decided here.
 #![tactic(auto)]
+
 ghost use Rattle.std.specs.Prelude.{◌≡◌, ◌+◌, ◌*◌, ◌≤◌, ◌<◌, length};
 ghost use Rattle.base_layout.specs.Layout.{header_size, record_size, peers, exit_bound};
 ghost use Rattle.step_commit.specs.Commit.{record_changed, exit_stored, gen_tid_changed, cache_changed, table_changed};
@@ -40,8 +41,8 @@ pub struct Changes {
     pub cached: TidChange,
     pub time: u64,
 }
-#[tactic(auto, unfolding(crate::specs::Commit::record_changed))]
 
+#[tactic(auto, unfolding(crate::specs::Commit::record_changed))]
 fn change_record(t: &mut [u8], place: usize, change: Change)
     requires { header_size + place * record_size + record_size ≤ length t.old }
     ensures { t.new ≡ record_changed t.old place change }
@@ -62,8 +63,8 @@ fn store_exit(t: &mut [u8], place: usize, stored: bool, exit: &[u8])
         base_lists::store(t, HEADER_SIZE + place * RECORD_SIZE + EXIT_OFFSET, exit);
     }
 }
-#[tactic(auto, unfolding(crate::specs::Commit::gen_tid_changed))]
 
+#[tactic(auto, unfolding(crate::specs::Commit::gen_tid_changed))]
 fn change_gen_tid(t: &mut [u8], change: GenTidChange)
     requires { header_size ≤ length t.old }
     ensures { t.new ≡ gen_tid_changed t.old change }
@@ -76,8 +77,8 @@ fn change_gen_tid(t: &mut [u8], change: GenTidChange)
         }
     }
 }
-#[tactic(auto, unfolding(crate::specs::Commit::cache_changed))]
 
+#[tactic(auto, unfolding(crate::specs::Commit::cache_changed))]
 fn change_cached(t: &mut [u8], peer: usize, change: TidChange)
     requires { (header_size ≤ length t.old) × (peer < peers) }
     ensures { t.new ≡ cache_changed t.old peer change }

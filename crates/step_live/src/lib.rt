@@ -1,5 +1,6 @@
 // An event that comes to a live record: its row, and whose turn it is.
 #![tactic(auto)]
+
 ghost use Rattle.std.specs.Prelude.{◌≡◌, ◌+◌, ◌*◌, ◌≤◌, length};
 ghost use Rattle.base_layout.specs.Layout.{header_size, record_size};
 ghost use Rattle.step_live.specs.Turning.{row_in, row_at, holder_of};

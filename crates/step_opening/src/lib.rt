@@ -1,5 +1,6 @@
 // What comes without a live record: the changes and the place of an opening.
 #![tactic(auto)]
+
 ghost use Rattle.std.specs.Prelude.{◌≡◌, ◌≤◌};
 ghost use Rattle.base_layout.specs.Layout.{tid_bound};
 ghost use Rattle.step_opening.specs.Opens.{opening_changes, place_for};

@@ -1,5 +1,6 @@
 // What an accepted call does, as data: the changes of the table, the cell, the PDU to send, what the user is shown, what the answer tells.
 #![tactic(auto)]
+
 ghost use Rattle.std.specs.Prelude.{◌≡◌, ◌<◌};
 ghost use Rattle.base_layout.specs.Layout.{records_bound};
 ghost use Rattle.step_plan.specs.Steps.{no_part, cell_of, message_of, sender_of, place_in, context_of, told_of_is};
@@ -164,8 +165,8 @@ pub fn context_of(h: Holder, c: Call) -> Context
         cell: cell_place,
     }
 }
-#[tactic(auto, unfolding(crate::specs::Steps::told_of_is))]
 
+#[tactic(auto, unfolding(crate::specs::Steps::told_of_is))]
 pub fn told_of(tells: Tells, h: Holder) -> Told
     ensures { result ≡ told_of_is tells h }
 {

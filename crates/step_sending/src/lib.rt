@@ -1,5 +1,6 @@
 // The PDU to send goes straight to the output, from its description and its sender; and where its parts lie.
 #![tactic(auto)]
+
 ghost use Rattle.std.specs.Prelude.{◌≡◌, [], ◌∷◌, ◌+◌, ◌≤◌, true, false, length, eqb};
 ghost use Rattle.base_layout.specs.Layout.{exit_bound, output_least};
 ghost use Rattle.base_lists.specs.Seq.{put};
@@ -54,8 +55,8 @@ fn put_head(out: &mut [u8], first: u8, by: Sender) -> usize
     out[2] = base_tids::low(tid);
     3
 }
-#[tactic(auto, using(base_lists::proofs::StoresAndParts::length_part), unfolding(crate::specs::Octets::FitSend, crate::specs::Octets::octets_sent, base_lists::specs::Seq::put))]
 
+#[tactic(auto, using(base_lists::proofs::StoresAndParts::length_part), unfolding(crate::specs::Octets::FitSend, crate::specs::Octets::octets_sent, base_lists::specs::Seq::put))]
 fn put_invoke(out: &mut [u8], src: &[u8], again: bool, by: Sender) -> usize
     requires fit_send { FitSend src.now (Invoke again) by }
     requires output_least_in_bounds { output_least ≤ length out.old }
@@ -66,8 +67,8 @@ fn put_invoke(out: &mut [u8], src: &[u8], again: bool, by: Sender) -> usize
     base_lists::copy(out, 4, src, by.start, by.len);
     4 + by.len
 }
-#[tactic(auto, using(base_lists::proofs::StoresAndParts::length_part), unfolding(crate::specs::Octets::FitSend, crate::specs::Octets::octets_sent, base_lists::specs::Seq::put))]
 
+#[tactic(auto, using(base_lists::proofs::StoresAndParts::length_part), unfolding(crate::specs::Octets::FitSend, crate::specs::Octets::octets_sent, base_lists::specs::Seq::put))]
 fn put_result(out: &mut [u8], src: &[u8], again: bool, by: Sender) -> usize
     requires fit_send { FitSend src.now (Result again) by }
     requires output_least_in_bounds { output_least ≤ length out.old }
@@ -175,8 +176,8 @@ fn source_by(again: bool) -> Source
 {
     if again { Source::Cell } else { Source::Given }
 }
-#[tactic(auto, unfolding(crate::specs::Sending::source_of))]
 
+#[tactic(auto, unfolding(crate::specs::Sending::source_of))]
 pub fn source_of(send: Send) -> Source
     ensures { result ≡ source_of send }
 {

@@ -1,5 +1,6 @@
 // What the user is shown, and its data as a part of one of two lent slices.
 #![tactic(auto)]
+
 ghost use Rattle.std.specs.Prelude.{◌≡◌};
 ghost use Rattle.table_record.specs.Record.{role_number};
 ghost use Rattle.step_shown.specs.Shows.{no_data, invoke_place, confirm_place, shown_of, place_of};
@@ -231,8 +232,8 @@ pub fn words_of(s: Shown) -> [u64; 12]
         0,
     ]
 }
-#[tactic(auto, unfolding(crate::specs::Parts::fitting_part))]
 
+#[tactic(auto, unfolding(crate::specs::Parts::fitting_part))]
 fn fitting_part(s: &[u8], start: usize, len: usize) -> &[u8]
     ensures { result.now ≡ fitting_part s.now start len }
 {

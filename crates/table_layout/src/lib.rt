@@ -1,5 +1,6 @@
 // The octets of a table: header, cached TIDs, records. docs/TABLE.md has the layout.
 #![tactic(auto)]
+
 ghost use Rattle.std.specs.Prelude.{◌≡◌, ◌+◌, ◌*◌, ◌≤◌, ◌<◌, length};
 ghost use Rattle.base_layout.specs.Layout.{header_size, record_size, peers};
 ghost use Rattle.table_layout.specs.Table.{count, clock_of, gen_tid_of, settings_of, fours, intervals_of, cached_of, record_at, put_record, clear_record, put_clock, put_gen_tid, put_cached, tidnew_due_of, put_tidnew_due};

@@ -1,15 +1,14 @@
 -- The mode and the waiting limit: the test holds exactly when the sentence does. Assumes nothing.
 use mathlib.Core.Path.{◌≡◌, refl, sym, ◌∙◌}
-use mathlib.Core.Bool.{Bool, true, false}
+use mathlib.Core.Bool.{true, false}
 use mathlib.Core.Logic.{◌⊎◌, inl, inr}
 use Prim.Native.Nat.{ℕ, ◌≤◌}
 use native.Mathlib.Omega.{arith}
 use lib.Dec.{eqb}
-use borrow.Author.Tests.{eqb-true, eq-eqb}
+use borrow.Author.Tests.{eqb-true}
 use Rattle.base_layout.specs.Layout.{interval_bound}
-use Rattle.base_lists.specs.Seq.{pick}
 use Rattle.base_lists.proofs.StoresAndParts.{told, true_false}
-use Rattle.table_ranges.specs.Ranges.{Interval, interval, ModesOk, off, on, modes_ok}
+use Rattle.table_ranges.specs.Ranges.{ModesOk, off, on, modes_ok}
 use Rattle.table_ranges.proofs.Tests.{interval_to, interval_from}
 
 pub modes_to : (modes limit : ℕ) → modes_ok modes limit ≡ true → ModesOk modes limit

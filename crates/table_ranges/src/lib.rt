@@ -1,5 +1,6 @@
 // Numbers in their ranges, and octets that must be zero.
 #![tactic(auto)]
+
 ghost use Rattle.std.specs.Prelude.{◌≡◌, ◌+◌, ◌*◌, ◌≤◌, length, leb};
 ghost use Rattle.base_layout.specs.Layout.{time_bound, maximum_bound, tid_bound};
 ghost use Rattle.table_ranges.specs.Ranges.{interval, modes_ok, unknown_ok, zeros};

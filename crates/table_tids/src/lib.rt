@@ -1,5 +1,6 @@
 // The TID test, the next GenTID, TIDnew, and the interval of a class and RCR.
 #![tactic(auto)]
+
 ghost use Rattle.std.specs.Prelude.{◌≡◌, ◌<◌};
 ghost use Rattle.table_tids.specs.Tids.{distance, test_of, next_tid, carries_tidnew, due_after, row_number, interval_of};
 

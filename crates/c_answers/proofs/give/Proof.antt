@@ -9,4 +9,4 @@ unfolding turn_words
 give_spec =
     tie.close (tie.spec
     (λ c κs. search rules) (λ c κs. search rules) (λ c κs. search rules) (λ c. search rules)
-    (λ c. simp (c.before.before.store-answer.ensures, c.before.before.before.before.told_of.ensures, c.before.before.before.before.before.context-of.ensures)))
+    (λ c. simp (c.before.before.store_answer.ensures, c.before.before.before.before.told_of-told.ensures, c.before.before.before.before.before.context_of-context.ensures)))

@@ -7,4 +7,4 @@ pub record_cost_spec : {M : Type 1} → statement M
 record_cost_spec =
     tie.close (tie.spec
     (λ c κs. search rules) (λ c κs. search rules)
-    (λ c. simp (c.role-cost.ensures, c.before.role-of.ensures)))
+    (λ c. simp (c.role_cost.ensures, c.before.role_of.ensures)))

@@ -9,5 +9,5 @@ unfolding accepts
 accepted_spec =
     tie.close (tie.spec
     (λ c κs. search rules) (λ c κs. search rules) (λ c κs. search rules)
-    (λ c. simp (c.body-size.ensures.0, c.before.is-items.ensures, c.before.before.before.before.if1.true, ← c.before.before.before.before.before.same_words_holds.ensures))
-    (λ c. simp (c.if1.false, ← c.before.same_words_holds.ensures)))
+    (λ c. simp (c.body_size.ensures.0, c.before.is_items.ensures, c.before.before.before.before.if-same_words.true, ← c.before.before.before.before.before.same_words.ensures))
+    (λ c. simp (c.if-same_words.false, ← c.before.same_words.ensures)))

@@ -9,4 +9,4 @@ unfolding turn_for
 turn_for_spec =
     tie.close (tie.spec
     (λ c κs. search rules) (λ c κs. search rules) (λ c κs. search rules)
-    (λ c. simp (c.turn-of.ensures, c.before.settings-of.ensures, c.before.before.act-for.ensures)))
+    (λ c. simp (c.turn_of.ensures, c.before.settings_of-s.ensures, c.before.before.act_for-a.ensures)))
