@@ -1,7 +1,7 @@
 -- What the search for the earliest deadline finds lies in a well-formed table. Assumes nothing.
 use Prim.Native.Nat.{ℕ, ◌+◌, ◌*◌, ◌≤◌}
 use native.Mathlib.Omega.{arith}
-use mathlib.Core.Path.{◌≡◌, sym, ◌∙◌}
+use mathlib.Core.Path.{◌≡◌, sym}
 use mathlib.Core.List.{List}
 use lib.ListN.{length}
 use Rattle.base_layout.specs.Layout.{header_size, record_size, deadline_bound}
@@ -11,6 +11,7 @@ use Rattle.table_finding.specs.declared.Found.{Found}
 use Rattle.table_finding.specs.declared.Found.TheVariants.{At, Nothing}
 use Rattle.table_finding.proofs.Earliest.{due_found}
 use Rattle.table_well_formed.specs.WellFormed.{WellFormed}
+use Rattle.table_well_formed.proofs.TableTest.{to_sentence}
 
 module _ (t : List ℕ) (w : WellFormed t) where
   pub header_there : header_size ≤ length t
@@ -25,3 +26,6 @@ module _ (t : List ℕ) (w : WellFormed t) where
         let below = (due_found t deadline_bound n i (sym e)).below in
         omega (arith, records_there, below)
     found_within Nothing e = tt
+
+-- what the well-formed test gives, for the goals of the call
+pub ruleset formed_tables = (to_sentence, header_there, records_there, found_within)

@@ -1,5 +1,6 @@
 // The next deadline: told, with nothing changed but the words that it is told in.
 #![tactic(auto)]
+
 ghost use Rattle.std.specs.Prelude.{◌≡◌};
 ghost use Rattle.table_finding.specs.Finding.{Within};
 ghost use Rattle.call_deadline.specs.Deadlines.{due_words, deadline_number, due_after};
@@ -8,6 +9,7 @@ use base_numbers::Refusal;
 use table_finding::Found;
 
 // The five words of the record with the earliest deadline, or of none.
+#[tactic(auto, unfolding(crate::specs::Deadlines::due_words))]
 fn told(t: &[u8], found: Found) -> [u64; 5]
     requires { Within t.now found }
     ensures { result ≡ due_words t.now found }
@@ -24,6 +26,7 @@ fn told(t: &[u8], found: Found) -> [u64; 5]
 }
 
 // Tells the earliest deadline of a live record, with its role, peer and TID; it takes no time and stores none.
+#[tactic(auto, using(crate::proofs::Within::formed_tables), unfolding(crate::specs::Deadlines::deadline_number, crate::specs::Deadlines::due_after, crate::specs::Deadlines::earliest_of))]
 pub fn deadline(t: &[u8], due: &mut [u64]) -> u64
     ensures { (result ≡ deadline_number t.now due.old) × (due.new ≡ due_after t.now due.old) }
 {

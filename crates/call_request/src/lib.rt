@@ -1,5 +1,6 @@
 // What a request is refused for, and what an accepted one brings.
 #![tactic(auto)]
+
 ghost use Rattle.std.specs.Prelude.{◌≡◌, ◌≤◌, length};
 ghost use Rattle.base_layout.specs.Layout.{header_size, cell_size};
 ghost use Rattle.table_well_formed.specs.WellFormed.{WellFormed};
@@ -44,6 +45,7 @@ fn own_refusal(t: &[u8], q: Request) -> Judged
 }
 
 // The lowest of the numbers 1 to 6 that applies.
+#[tactic(auto, using(call_refusal::proofs::Going::entered))]
 fn request_refusal(t: &[u8], store: usize, output: usize, q: Request) -> Judged
     ensures { result ≡ lowest (entry_tests t.now store output q) }
 {

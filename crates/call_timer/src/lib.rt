@@ -1,5 +1,6 @@
 // What an accepted timer call brings to the record that it fires.
 #![tactic(auto)]
+
 ghost use Rattle.std.specs.Prelude.{◌≡◌, ◌+◌, ◌*◌, ◌≤◌, length};
 ghost use Rattle.base_layout.specs.Layout.{header_size, record_size};
 ghost use Rattle.call_timer.specs.Timers.{fired_row, fired_given, fired_call};
