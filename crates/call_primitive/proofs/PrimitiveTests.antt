@@ -15,7 +15,6 @@ use Rattle.table_record.specs.declared.Role.{Role}
 use Rattle.table_record.specs.declared.Role.TheVariants.{Initiator, Responder}
 use Rattle.table_layout.specs.Table.{record_at}
 use Rattle.row_events.specs.declared.Row.{Row}
-use Rattle.row_events.specs.declared.Row.TheVariants as Row
 use Rattle.row_events.specs.Events.{same_row_is}
 use Rattle.row_events.proofs.Finite.{same_row}
 use Rattle.table_finding.specs.declared.Found.{Found}

@@ -10,11 +10,9 @@ use Rattle.table_layout.specs.Table.{count, record_at}
 use Rattle.table_record_ok.specs.OneRecord.{Live}
 use Rattle.table_finding.specs.Finding.{is_found, named_of}
 use Rattle.table_finding.specs.declared.Found.{Found}
-use Rattle.table_finding.specs.declared.Found.TheVariants as Found
 use Rattle.row_events.specs.Events.{same_row_is}
 use Rattle.row_events.specs.declared.Event.{Event}
 use Rattle.row_events.specs.declared.Row.{Row}
-use Rattle.row_events.specs.declared.Row.TheVariants as Row
 use Rattle.row_turns.specs.declared.Given.{Given}
 use Rattle.call_refusal.specs.Judging.{Test, test, lowest, plan_by, placed_by, peer_tests}
 use Rattle.call_refusal.specs.declared.Placed.{Placed}
@@ -26,7 +24,6 @@ use Rattle.step_plan.specs.declared.Plan.{Plan}
 use Rattle.step_opening.specs.Opens.{place_for}
 use Rattle.step_live.specs.Turning.{row_at, live_step}
 use Rattle.step_carrying.specs.declared.Coming.{Coming}
-use Rattle.step_carrying.specs.declared.Coming.TheVariants as Coming
 use Rattle.call_primitive.specs.declared.Primitive.{Primitive}
 
 -- ---- what the conditions of its refusals name; the conditions are in crates/law_refusals

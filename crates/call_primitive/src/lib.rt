@@ -31,6 +31,7 @@ pub struct Primitive {
 }
 
 // The record that a primitive names; a role other than 0 and 1 names none.
+#[tactic(auto, unfolding(crate::specs::Primitives::named_by))]
 pub fn named_by(t: &[u8], role: u64, peer: u64, tid: u64) -> Found
     requires { WellFormed t.now }
     ensures { result ≡ named_by t.now role peer tid }
@@ -45,6 +46,7 @@ pub fn named_by(t: &[u8], role: u64, peer: u64, tid: u64) -> Found
 }
 
 // A live class 2 responder record takes no exit information.
+#[tactic(auto, unfolding(crate::specs::Primitives::exit_refused))]
 fn exit_refused(t: &[u8], found: Found) -> bool
     requires { Within t.now found }
     ensures { result ≡ exit_refused t.now found }
@@ -73,6 +75,7 @@ fn is_responder(role: Role) -> bool
 }
 
 // Number 4: too much data or exit information, or exit information where none may be.
+#[tactic(auto, unfolding(crate::specs::Primitives::too_much_is))]
 fn too_much(t: &[u8], p: Primitive, found: Found) -> bool
     requires { Within t.now found }
     ensures { result ≡ too_much_is t.now p found }
@@ -90,6 +93,7 @@ fn too_much(t: &[u8], p: Primitive, found: Found) -> bool
 }
 
 // The row of a primitive that isn't allowed.
+#[tactic(auto, unfolding(crate::specs::Primitives::refuses_row))]
 fn refuses(row: Row) -> bool
     ensures { result ≡ refuses_row row }
 {
@@ -100,6 +104,7 @@ fn refuses(row: Row) -> bool
 }
 
 // Number 9: the row of the primitive in the record's state.
+#[tactic(auto, unfolding(crate::specs::Primitives::not_allowed))]
 fn not_allowed(t: &[u8], found: Found, event: Event) -> bool
     requires { Within t.now found }
     ensures { result ≡ not_allowed t.now found event }
@@ -111,6 +116,7 @@ fn not_allowed(t: &[u8], found: Found, event: Event) -> bool
 }
 
 // The lowest of the numbers 4, 8, 9 that applies, with the named record found.
+#[tactic(auto, unfolding(call_refusal::specs::Judging::lowest))]
 fn found_refusal(t: &[u8], found: Found, p: Primitive) -> Judged
     requires { Within t.now found }
     ensures { result ≡ lowest (found_tests t.now found p) }
@@ -129,6 +135,7 @@ fn found_refusal(t: &[u8], found: Found, p: Primitive) -> Judged
 }
 
 // With the named record found: a number, or its place.
+#[tactic(auto, unfolding(crate::specs::Primitives::found_place))]
 fn with_found(t: &[u8], found: Found, p: Primitive) -> Placed
     requires { Within t.now found }
     ensures { result ≡ found_place t.now found p }
@@ -140,6 +147,7 @@ fn with_found(t: &[u8], found: Found, p: Primitive) -> Placed
 }
 
 // A primitive over a store and an output of these lengths: a number, or the place of its record.
+#[tactic(auto, using(crate::proofs::Named::found_within, crate::proofs::Accepted::entered))]
 pub fn primitive_place(t: &[u8], store: usize, output: usize, p: Primitive) -> Placed
     ensures { result ≡ primitive_place t.now store output p }
 {
@@ -150,6 +158,7 @@ pub fn primitive_place(t: &[u8], store: usize, output: usize, p: Primitive) -> P
 }
 
 // The row that an accepted primitive meets in the record at this place.
+#[tactic(auto, unfolding(crate::specs::Primitives::primitive_row))]
 pub fn primitive_row(t: &[u8], place: usize, p: Primitive) -> Coming
     requires { header_size + place * record_size + record_size ≤ length t.now }
     ensures { result ≡ primitive_row t.now place p }
@@ -159,6 +168,7 @@ pub fn primitive_row(t: &[u8], place: usize, p: Primitive) -> Coming
     Coming::Live(place, row)
 }
 
+#[tactic(auto, unfolding(crate::specs::Primitives::primitive_given))]
 pub fn primitive_given(p: Primitive) -> Given
     requires { (p.len ≤ cell_size) × (p.exit_len ≤ exit_bound) }
     ensures { result ≡ primitive_given p }
@@ -173,6 +183,7 @@ pub fn primitive_given(p: Primitive) -> Given
     }
 }
 
+#[tactic(auto, unfolding(crate::specs::Primitives::primitive_call))]
 pub fn primitive_call(p: Primitive) -> Call
     ensures { result ≡ primitive_call p }
 {

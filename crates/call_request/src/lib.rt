@@ -45,6 +45,7 @@ fn own_refusal(t: &[u8], q: Request) -> Judged
 }
 
 // The lowest of the numbers 1 to 6 that applies.
+#[tactic(auto, using(call_refusal::proofs::Going::entered))]
 fn request_refusal(t: &[u8], store: usize, output: usize, q: Request) -> Judged
     ensures { result ≡ lowest (entry_tests t.now store output q) }
 {

@@ -3,7 +3,6 @@ use Rattle.std.specs.Prelude.{ℕ, List}
 use Rattle.table_layout.specs.Table.{count}
 use Rattle.table_finding.specs.Finding.{due_of}
 use Rattle.table_finding.specs.declared.Found.{Found}
-use Rattle.table_finding.specs.declared.Found.TheVariants as Found
 use Rattle.row_events.specs.declared.Event.TheVariants as Event
 use Rattle.row_turns.specs.declared.Given.{Given}
 use Rattle.call_refusal.specs.Judging.{Test, lowest, plan_by, first_tests}

@@ -10,5 +10,5 @@ unfolding none_free
 none_free_spec =
     tie.close (tie.spec
     (λ c κs. search rules)
-    (λ c. simp (c.is_found.ensures, lt-ltb _ _ c.before.if1.true))
-    (λ c. simp (le-ltb _ _ c.if1.false)))
+    (λ c. simp (c.is_found.ensures, lt-ltb _ _ c.before.if-class-gt0.true))
+    (λ c. simp (le-ltb _ _ c.if-class-gt0.false)))

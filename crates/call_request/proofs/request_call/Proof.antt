@@ -8,4 +8,4 @@ pub request_call_spec : {M : Type 1} → statement M
 unfolding request_call
 request_call_spec =
     tie.close (tie.spec
-    (λ c κs. search rules) (λ c. simp c.no_part.ensures))
+    (λ c κs. search rules) (λ c. simp c.no_part-none.ensures))

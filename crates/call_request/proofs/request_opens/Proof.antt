@@ -10,4 +10,4 @@ request_opens_spec =
     tie.close (tie.spec
     (λ c κs. search rules) (λ c. search rules) (λ c κs. search rules) (λ c κs. search rules) (λ c. search rules)
     (λ c κs. search rules) (λ c κs. search rules) (λ c κs. search rules)
-    (λ c. simp (c.due-after.ensures, c.before.requested.ensures, c.before.before.next-tid.ensures, c.before.before.before.before.carries-tidnew.ensures, c.before.before.before.before.before.tidnew_due.ensures, c.before.before.before.before.before.before.before.gen-tid-of.ensures)))
+    (λ c. simp (c.due_after-still.ensures, c.before.requested-opening.ensures, c.before.before.next_tid-next.ensures, c.before.before.before.before.carries_tidnew-tidnew.ensures, c.before.before.before.before.before.tidnew_due-due.ensures, c.before.before.before.before.before.before.before.gen_tid_of-tid.ensures)))

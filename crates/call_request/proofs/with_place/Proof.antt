@@ -10,6 +10,6 @@ unfolding free_place lowest
 with_place_spec =
     tie.close (tie.spec
     (λ c κs. search rules)
-    (λ c. simp (c.if1.true, ← c.before.none_free.ensures))
+    (λ c. simp (c.if-none_free.true, ← c.before.none_free.ensures))
     (λ c κs. search rules)
-    (λ c. simp (c.place-for.ensures, c.before.if1.false, ← c.before.before.none_free.ensures)))
+    (λ c. simp (c.place_for-place.ensures, c.before.if-none_free.false, ← c.before.before.none_free.ensures)))

@@ -8,4 +8,4 @@ pub fired_row_spec : {M : Type 1} → statement M
 unfolding fired_row
 fired_row_spec =
     tie.close (tie.spec
-    (λ c κs. search rules) (λ c. simp c.row_at.ensures))
+    (λ c κs. search rules) (λ c. simp c.row_at-row.ensures))
