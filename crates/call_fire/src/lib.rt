@@ -1,5 +1,6 @@
 // Which record a firing by name fires, and what it is refused for.
 #![tactic(auto)]
+
 ghost use Rattle.std.specs.Prelude.{◌≡◌};
 ghost use Rattle.table_finding.specs.Finding.{Within};
 ghost use Rattle.call_fire.specs.Fires.{as_fire, named_place, fire_place};
@@ -9,6 +10,7 @@ use call_refusal::{Judged, Placed};
 use table_finding::Found;
 
 // With the named record found: number 8 or 9, or its place.
+#[tactic(auto, using(crate::proofs::Placing::gives_nine, crate::proofs::Placing::is_placed, crate::proofs::Placing::gives_eight))]
 fn named_place(t: &[u8], found: Found, time: u64) -> Placed
     requires { Within t.now found }
     ensures { result ≡ named_place t.now time found }
@@ -26,6 +28,7 @@ fn named_place(t: &[u8], found: Found, time: u64) -> Placed
 }
 
 // Firing the record of this role, peer and TID, over a store and an output of these lengths: a number, or its place.
+#[tactic(auto, using(call_refusal::proofs::Going::entered))]
 pub fn fire_place(
     t: &[u8],
     store: usize,
