@@ -12,10 +12,8 @@ use Rattle.table_layout.specs.Table.{count}
 use Rattle.table_finding.specs.Finding.{named_of}
 use Rattle.table_finding.specs.declared.Found.TheVariants as Found
 use Rattle.row_events.specs.declared.Opening.{Opening}
-use Rattle.row_events.specs.declared.Opening.TheVariants as Opening
 use Rattle.row_columns.specs.Columns.{act_with, provider, protoerr, invalidtid, ended}
 use Rattle.row_columns.specs.declared.Send.{Send}
-use Rattle.row_columns.specs.declared.Send.TheVariants as Send
 use Rattle.row_columns.specs.declared.Indication.TheVariants as Indication
 use Rattle.row_entries.specs.Acts.{opening_act}
 use Rattle.row_choice.specs.Rows.{opening_of}

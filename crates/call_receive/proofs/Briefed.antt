@@ -1,6 +1,6 @@
 -- What the engine takes of a PDU is all that its turn depends on. Assumes nothing.
 use Prim.Native.Nat.{ℕ}
-use mathlib.Core.Path.{◌≡◌, refl}
+use mathlib.Core.Path.{◌≡◌}
 use mathlib.Core.List.{List}
 use Rattle.codec_items.specs.Info.{first_from, info_from}
 use Rattle.codec_pdu.specs.Pdu.{info_of, unknown_of}

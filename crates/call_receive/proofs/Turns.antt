@@ -1,7 +1,7 @@
 -- The turn that a PDU brings has its step, and is in range. Assumes nothing.
-use Prim.Native.Nat.{ℕ, ◌≤◌, ◌<◌}
+use Prim.Native.Nat.{ℕ, ◌≤◌}
 use native.Mathlib.Omega.{arith}
-use mathlib.Core.Path.{◌≡◌, refl, sym, ◌∙◌}
+use mathlib.Core.Path.{◌≡◌, refl, sym}
 use mathlib.Core.List.{List}
 use Rattle.base_layout.specs.Layout.{time_bound, tid_bound}
 use Rattle.codec_pdu.specs.Pdu.{unknown_of}
@@ -11,7 +11,6 @@ use Rattle.table_record.specs.declared.Role.{Role}
 use Rattle.table_layout.specs.Table.{count}
 use Rattle.table_finding.specs.Finding.{named_of, free_of}
 use Rattle.table_finding.specs.declared.Found.{Found}
-use Rattle.table_finding.specs.declared.Found.TheVariants as Found
 use Rattle.table_well_formed.specs.WellFormed.{WellFormed}
 use Rattle.row_turns.specs.declared.Given.{Given}
 use Rattle.step_arrivals.specs.Arrivals.{name_of, event_of}
@@ -31,7 +30,6 @@ use Rattle.law_places.proofs.Places.{place_small, free_place_holds}
 use Rattle.law_places.proofs.Whole.{Whole, named_whole}
 use Rattle.call_receive.specs.Receives.{taken_given, taken_call, taken_step, arriver_of, opened_given, opened_call, opened_step, arrival_opening, unmatched_step, step_by, naming_step, step_of_name, receive_step, taken_turn, opened_turn, unmatched_turn, turn_by, naming_turn, turn_of_name, receive_turn}
 use Rattle.call_receive.specs.declared.Arrives.{Arrives}
-use Rattle.call_receive.specs.declared.Arrives.TheVariants as Arrives
 
 -- what is so of a turn: its step, and its range
 abbrev pub Sound : List ℕ → ℕ → Step → Arrives → Type 0

@@ -17,7 +17,6 @@ use Rattle.table_layout.specs.Table.{count, record_at}
 use Rattle.table_well_formed.specs.WellFormed.{WellFormed}
 use Rattle.table_finding.specs.Finding.{is_found, named_of, free_of}
 use Rattle.table_finding.specs.declared.Found.{Found}
-use Rattle.table_finding.specs.declared.Found.TheVariants as Found
 use Rattle.table_finding.specs.Searched.{Called, NoneOf}
 use Rattle.table_finding.proofs.Searches.{named_found, named_nothing}
 use Rattle.law_places.specs.Places.{LiveAt}

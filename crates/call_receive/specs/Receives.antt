@@ -1,5 +1,5 @@
 -- A received PDU (01, "TIDs", "Events"): its refusals, and the step of an accepted one.
-use Rattle.std.specs.Prelude.{ℕ, ◌%◌, ◌≤◌, ◌<◌, ◌≡◌, List, [], ◌∷◌, ◌++◌, Bool, true, false, not, length, ltb, eqb}
+use Rattle.std.specs.Prelude.{ℕ, ◌%◌, List, [], ◌∷◌, ◌++◌, Bool, true, false, not, length, ltb, eqb}
 use Rattle.base_layout.specs.Layout.{peers, cell_size, datagram_bound}
 use Rattle.base_lists.specs.Seq.{pick}
 use Rattle.base_numbers.specs.declared.Refusal.TheVariants.{WrongLength}
@@ -11,7 +11,6 @@ use Rattle.table_record.specs.declared.Role.{Role}
 use Rattle.table_layout.specs.Table.{count, cached_of}
 use Rattle.table_finding.specs.Finding.{is_found, named_of, free_of}
 use Rattle.table_finding.specs.declared.Found.{Found}
-use Rattle.table_finding.specs.declared.Found.TheVariants as Found
 use Rattle.table_tids.specs.Tids.{test_of}
 use Rattle.table_tids.specs.declared.Test.{Test as TidTest}
 use Rattle.table_tids.specs.declared.Test.TheVariants.{Valid, Verified}
@@ -34,7 +33,6 @@ use Rattle.step_opening.specs.Opens.{place_for, opening_step}
 use Rattle.step_live.specs.Turning.{row_at, live_step}
 use Rattle.step_carrying.specs.declared.Coming.TheVariants as Coming
 use Rattle.call_receive.specs.declared.Arrives.{Arrives}
-use Rattle.call_receive.specs.declared.Arrives.TheVariants as Arrives
 
 -- 11: "datagram or PDU length outside 1 to 1,500"
 abbrev pub wrong_length : ℕ → Bool

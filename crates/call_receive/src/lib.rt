@@ -1,5 +1,6 @@
 // What a received PDU is refused for, and what an accepted one brings.
 #![tactic(auto)]
+
 ghost use Rattle.std.specs.Prelude.{◌≡◌, ◌+◌, ◌*◌, ◌≤◌, length};
 ghost use Rattle.base_layout.specs.Layout.{header_size, record_size};
 ghost use Rattle.codec_pdu.specs.Brief.{as_pdu};
@@ -99,6 +100,7 @@ fn taken(t: &[u8], place: usize, time: u64, b: Brief) -> Arrives
 }
 
 // The data of an Invoke that may be kept: one of more than 1,024 octets is kept nowhere.
+#[tactic(auto, unfolding(crate::specs::Receives::kept_part, crate::specs::Receives::user_part, codec_pdu::specs::Brief::as_pdu))]
 fn kept_part(b: Brief) -> Part
     ensures { result ≡ kept_part (as_pdu b) }
 {
@@ -111,6 +113,7 @@ fn kept_part(b: Brief) -> Part
     }
 }
 
+#[tactic(auto, unfolding(crate::specs::Receives::is_valid))]
 fn is_valid(test: Test) -> bool
     ensures { result ≡ is_valid test }
 {
@@ -121,6 +124,7 @@ fn is_valid(test: Test) -> bool
 }
 
 // Whom a PDU without a live record concerns, and the place where its record would be opened.
+#[tactic(auto, unfolding(crate::specs::Receives::arriver_of))]
 fn arriver(place: usize, role: Role, peer: u8, tid: u16, kind: Kind) -> Holder
     ensures { result ≡ arriver_of place role peer tid kind }
 {
@@ -138,6 +142,7 @@ fn arriver(place: usize, role: Role, peer: u8, tid: u16, kind: Kind) -> Holder
 }
 
 // An opening for this PDU.
+#[tactic(auto, using(crate::proofs::KeptData::kept_fits))]
 fn opened_by(opening: Opening, h: Holder, time: u64, b: Brief) -> Arrives
     ensures { result ≡ opened_turn opening h time (as_pdu b) b.unknown.identity }
 {
@@ -165,6 +170,7 @@ fn opened_by(opening: Opening, h: Holder, time: u64, b: Brief) -> Arrives
 }
 
 // A PDU without a live record.
+#[tactic(auto, unfolding(crate::specs::Receives::unmatched_turn, crate::specs::Receives::arrival_opening, codec_pdu::specs::Brief::as_pdu))]
 fn unmatched(t: &[u8], role: Role, peer: u8, tid: u16, time: u64, s: &[u8], b: Brief) -> Arrives
     requires { WellFormed t.now }
     ensures { result ≡ unmatched_turn t.now role peer tid time s.now (as_pdu b) b.unknown.identity }
@@ -180,6 +186,7 @@ fn unmatched(t: &[u8], role: Role, peer: u8, tid: u16, time: u64, s: &[u8], b: B
 }
 
 // A PDU that names this record.
+#[tactic(auto, using(crate::proofs::Briefed::taken_same, crate::proofs::Briefed::unmatched_same, crate::proofs::Received::named_by_tid), unfolding(crate::specs::Receives::naming_turn))]
 fn naming(t: &[u8], role: Role, peer: u8, tid: u16, time: u64, s: &[u8]) -> Arrives
     requires well_formed { WellFormed t.now }
     requires s_value { name_of s.now ≡ Of role tid }
@@ -194,6 +201,7 @@ fn naming(t: &[u8], role: Role, peer: u8, tid: u16, time: u64, s: &[u8]) -> Arri
 }
 
 // What an accepted PDU brings.
+#[tactic(auto, unfolding(crate::specs::Receives::receive_turn))]
 pub fn receive_turn(t: &[u8], time: u64, peer: u8, s: &[u8]) -> Arrives
     requires { WellFormed t.now }
     ensures { result ≡ receive_turn t.now time peer s.now }
