@@ -16,9 +16,7 @@ use Rattle.law_places.proofs.Whole.{Whole, live_whole}
 use Rattle.step_plan.specs.declared.Plan.TheVariants as Plan
 use Rattle.call_refusal.specs.Judging.{lowest, plan_by, placed_by, peer_tests}
 use Rattle.call_refusal.specs.declared.Judged.{Judged}
-use Rattle.call_refusal.specs.declared.Judged.TheVariants as Judged
 use Rattle.call_refusal.specs.declared.Placed.{Placed}
-use Rattle.call_refusal.specs.declared.Placed.TheVariants as Placed
 use Rattle.call_refusal.proofs.Placing.{place_at, goes_at, refuses_so}
 use Rattle.call_refusal.proofs.Going.{entered}
 use Rattle.call_refusal.proofs.Stages.{both_stages}

@@ -4,7 +4,6 @@ use Rattle.base_numbers.specs.declared.Refusal.TheVariants.{NoRecord, NotAllowed
 use Rattle.table_layout.specs.Table.{record_at}
 use Rattle.table_finding.specs.Finding.{is_found, is_due}
 use Rattle.table_finding.specs.declared.Found.{Found}
-use Rattle.table_finding.specs.declared.Found.TheVariants as Found
 use Rattle.row_events.specs.declared.Event.TheVariants as Event
 use Rattle.step_opening.specs.Opens.{place_for}
 use Rattle.step_plan.specs.declared.Plan.{Plan}

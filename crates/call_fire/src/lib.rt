@@ -10,6 +10,7 @@ use call_refusal::{Judged, Placed};
 use table_finding::Found;
 
 // With the named record found: number 8 or 9, or its place.
+#[tactic(auto, using(crate::proofs::Placing::gives_nine, crate::proofs::Placing::is_placed, crate::proofs::Placing::gives_eight))]
 fn named_place(t: &[u8], found: Found, time: u64) -> Placed
     requires { Within t.now found }
     ensures { result ≡ named_place t.now time found }
@@ -27,6 +28,7 @@ fn named_place(t: &[u8], found: Found, time: u64) -> Placed
 }
 
 // Firing the record of this role, peer and TID, over a store and an output of these lengths: a number, or its place.
+#[tactic(auto, using(call_refusal::proofs::Going::entered))]
 pub fn fire_place(
     t: &[u8],
     store: usize,
