@@ -27,6 +27,7 @@ fn reservation(whom: u8, t: Turn) -> Place
 }
 
 // Changes the book as the row says.
+#[tactic(auto, unfolding(crate::specs::Receiving::book_by))]
 fn commit(book: &mut [u8], app: &[u8], t: Turn)
     requires { (length book.old ≡ book_size) × (length app.now ≤ app_most) }
     ensures { book.new ≡ book_by book.old app.now t t.row }
