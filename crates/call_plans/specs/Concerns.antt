@@ -8,7 +8,6 @@ use Rattle.table_finding.specs.Searched.{Due}
 use Rattle.table_finding.specs.declared.Found.TheVariants as Found
 use Rattle.codec_reading.specs.Read.{pdu_of}
 use Rattle.row_events.specs.declared.Event.{Event}
-use Rattle.row_events.specs.declared.Event.TheVariants as Event
 use Rattle.row_events.specs.declared.Row.TheVariants as Row
 use Rattle.row_turns.specs.declared.Given.{Given}
 use Rattle.step_live.specs.Turning.{row_at}

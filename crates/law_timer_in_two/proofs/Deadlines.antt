@@ -1,13 +1,13 @@
 -- What the deadline call tells is so, and it is refused with 1 exactly where a table isn't well formed or the words are too few. Assumes nothing.
 use Prim.Native.Nat.{ℕ, zero, suc, ◌+◌, ◌≤◌, ◌<◌}
 use native.Mathlib.Omega.{arith}
-use mathlib.Core.Path.{◌≡◌, refl, sym, ap, ◌∙◌}
+use mathlib.Core.Path.{◌≡◌, refl, ap, ◌∙◌}
 use mathlib.Core.Bool.{Bool, true, false}
 use mathlib.Core.List.{List}
-use mathlib.Core.Logic.{◌⊎◌, inl, inr}
+use mathlib.Core.Logic.{inl, inr}
 use lib.ListN.{length, get_or, replicate}
 use lib.Dec.{ltb}
-use borrow.Author.Tests.{lt-ltb, le-ltb, ltb-false}
+use borrow.Author.Tests.{le-ltb, ltb-false}
 use Rattle.base_layout.specs.Layout.{deadline_bound}
 use Rattle.base_lists.specs.Seq.{pick, put}
 use Rattle.base_lists.proofs.StoresAndParts.{length_put}
@@ -15,13 +15,13 @@ use Rattle.base_octets.proofs.StoredAndRead.{get_same, get_d_after}
 use Rattle.table_layout.specs.Table.{count, record_at}
 use Rattle.table_finding.specs.declared.Found.{Found}
 use Rattle.table_finding.specs.declared.Found.TheVariants.{At, Nothing}
-use Rattle.table_finding.specs.Searched.{Due, Earliest}
+use Rattle.table_finding.specs.Searched.{Due}
 use Rattle.table_finding.proofs.Earliest.{due_found, due_nothing}
 use Rattle.table_well_formed.specs.WellFormed.{WellFormed, well_formed}
 use Rattle.table_well_formed.proofs.TableTest.{to_sentence, to_test}
 use Rattle.law_places.proofs.Places.{live_number, live_range}
 use Rattle.call_deadline.specs.Deadlines.{earliest_of, due_words, deadline_number, due_after}
-use Rattle.law_timer_in_two.specs.InTwo.{Runs, Soonest, WordsOf, NoneRuns, Told, Kept}
+use Rattle.law_timer_in_two.specs.InTwo.{Runs, Soonest, Told, Kept}
 
 module _ (t : List ℕ) (w : WellFormed t) where
   -- a deadline is in range, so that its record is due at the greatest one

@@ -2,7 +2,6 @@
 use Prim.Native.Nat.{ℕ, ◌≤◌, ◌<◌}
 use native.Mathlib.Omega.{arith}
 use mathlib.Core.Path.{◌≡◌, refl, sym, ap, ◌∙◌}
-use mathlib.Core.Bool.{true, false}
 use mathlib.Core.List.{List, [], ◌∷◌, ◌++◌}
 use mathlib.Core.Logic.{◌⊎◌, inl, inr}
 use lib.ListN.{length, get_or}
@@ -25,13 +24,11 @@ use Rattle.law_places.proofs.Places.{live_number, live_range}
 use Rattle.step_plan.specs.Steps.{idle_step, idle_changes}
 use Rattle.step_plan.specs.declared.Step.{Step}
 use Rattle.step_plan.specs.declared.Plan.{Plan}
-use Rattle.step_plan.specs.declared.Plan.TheVariants as Plan
 use Rattle.step_commit.specs.Commit.{table_changed, record_changed, exit_stored, gen_tid_changed, cache_changed}
 use Rattle.step_outcome.specs.Carry.{Lent, done, table_then, carried_out, outcome}
 use Rattle.step_outcome.specs.declared.Answer.TheVariants.{Refused}
-use Rattle.call_refusal.specs.Judging.{Test, test, lowest, plan_by, first_tests, peer_tests}
+use Rattle.call_refusal.specs.Judging.{Test, test, lowest, first_tests, peer_tests}
 use Rattle.call_refusal.specs.declared.Judged.{Judged}
-use Rattle.call_refusal.specs.declared.Judged.TheVariants as Judged
 use Rattle.call_refusal.proofs.Stages.{next, in_stages}
 use Rattle.call_primitive.specs.Primitives.{Named, found_for}
 use Rattle.call_primitive.specs.declared.Primitive.{Primitive}
@@ -41,8 +38,8 @@ use Rattle.call_timer.proofs.Accepted.{timer_accepted}
 use Rattle.call_fire.specs.Fires.{as_fire, not_due, named_tests, fire_tests, fire_plan}
 use Rattle.call_fire.proofs.Accepted.{fire_accepted}
 use Rattle.call_plans.specs.Calls.{Call, plan_for, promised}
-use Rattle.call_deadline.specs.Deadlines.{earliest_of, due_after}
-use Rattle.law_timer_in_two.specs.InTwo.{Runs, Soonest, WordsOf, NoneRuns, Told, SomeDue, fire_told, NoneDue}
+use Rattle.call_deadline.specs.Deadlines.{due_after}
+use Rattle.law_timer_in_two.specs.InTwo.{Runs, Soonest, Told, SomeDue, fire_told, NoneDue}
 use Rattle.law_timer_in_two.proofs.Deadlines.{deadline_told}
 
 -- tests that accept leave the judgement to those before them
