@@ -1,5 +1,6 @@
 // The engine's seven calls: each is judged, and an accepted one is carried out at once.
 #![tactic(auto)]
+
 ghost use Rattle.std.specs.Prelude.{◌≡◌, [], ◌+◌, ◌*◌, ◌≤◌, ◌<◌, length};
 ghost use Rattle.base_layout.specs.Layout.{header_size, record_size, time_bound, tid_bound, records_bound};
 ghost use Rattle.table_layout.specs.Table.{record_at};

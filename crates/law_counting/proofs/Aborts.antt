@@ -33,7 +33,8 @@ alone c = pick (eqb c.aborts 0) true (eqb (c.confirms + c.results) 0)
 abbrev pub Alone : Counts → Type 0
 Alone c = 1 ≤ c.aborts → (c.confirms ≡ 0) × (c.results ≡ 0)
 
-is_alone : (c : Counts) → alone c ≡ true → Alone c
+-- `Alone c` from its test, in the words of its definition
+is_alone : (c : Counts) → alone c ≡ true → 1 ≤ c.aborts → (c.confirms ≡ 0) × (c.results ≡ 0)
 is_alone c e some = go (eqb c.aborts 0) refl e
   where
     go : (b : Bool) → eqb c.aborts 0 ≡ b → pick b true (eqb (c.confirms + c.results) 0) ≡ true → (c.confirms ≡ 0) × (c.results ≡ 0)

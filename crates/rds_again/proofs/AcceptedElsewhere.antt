@@ -26,7 +26,6 @@ use Rattle.rds_writing.specs.Write.{same_words, is_items, size_of, accepts}
 use Rattle.rds_writing.proofs.Own.{length_kind_words}
 use Rattle.rds_writing.proofs.Said.{said_full}
 use Rattle.rds_written.specs.Trips.{unplaced_head, unplaced_entry, unplaced, body_part, entry_part}
-use Rattle.rds_written.proofs.Headers.{head}
 use Rattle.rds_cleared.proofs.Headers.{head_said_holds}
 use Rattle.rds_again.specs.Again.{unended}
 use Rattle.rds_again.specs.Elsewhere.{PartInside, Elsewhere}

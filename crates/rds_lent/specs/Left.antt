@@ -1,5 +1,5 @@
 -- What a call of the book leaves, and when it is refused with 1 (RDS.md, section 6).
-use Rattle.std.specs.Prelude.{ℕ, List, Bool, true, false, length, ltb}
+use Rattle.std.specs.Prelude.{ℕ, List, Bool, false, length, ltb}
 use Rattle.base_lists.specs.Seq.{pick}
 use Rattle.base_numbers.specs.declared.Refusal.{Refusal}
 use Rattle.base_numbers.specs.Numbers.{number_of}

@@ -1,5 +1,6 @@
 // What the calls of the book ask before anything is done, and the command that is sent.
 #![tactic(auto)]
+
 ghost use Rattle.std.specs.Prelude.{◌≡◌, ◌≤◌, length};
 ghost use Rattle.base_lists.specs.Seq.{put};
 ghost use Rattle.rds_book.specs.Book.{book_size};

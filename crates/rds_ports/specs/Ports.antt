@@ -1,5 +1,5 @@
 -- The calls of our commands (RDS.md, section 5, O1 to O4).
-use Rattle.std.specs.Prelude.{ℕ, List, Bool, true, false}
+use Rattle.std.specs.Prelude.{ℕ, List, Bool}
 use Rattle.base_lists.specs.Seq.{pick}
 use Rattle.base_numbers.specs.declared.Refusal.TheVariants.{WrongSize, NoRecord, NotAllowed, WrongSetting, WrongLength}
 use Rattle.base_numbers.specs.Numbers.{number_of}

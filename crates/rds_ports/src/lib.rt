@@ -1,5 +1,6 @@
 // The calls of our commands: reserve, release, again, abandon.
 #![tactic(auto)]
+
 ghost use Rattle.std.specs.Prelude.{◌≡◌, ◌≤◌, length};
 ghost use Rattle.rds_book.specs.Book.{book_size};
 ghost use Rattle.rds_lent.specs.Left.{left};

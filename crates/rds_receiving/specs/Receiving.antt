@@ -1,5 +1,5 @@
 -- What `rds_receive` leaves (RDS.md, sections 5 and 6).
-use Rattle.std.specs.Prelude.{ℕ, ◌%◌, List, [], ◌∷◌, Bool, true, false, length, get_or, eqb}
+use Rattle.std.specs.Prelude.{ℕ, ◌%◌, List, [], ◌∷◌, Bool, true, false, length, eqb}
 use Rattle.base_lists.specs.Seq.{pick, bit, put}
 use Rattle.base_numbers.specs.declared.Refusal.TheVariants.{WrongSize, WrongFrame}
 use Rattle.rds_frame.specs.declared.Head.{Head}

@@ -1,5 +1,6 @@
 // A frame from the peer: the book, what is sent, and the answer.
 #![tactic(auto)]
+
 ghost use Rattle.std.specs.Prelude.{◌≡◌, ◌≤◌, length};
 ghost use Rattle.base_lists.specs.Seq.{put};
 ghost use Rattle.rds_book.specs.Book.{book_size, app_most};
@@ -26,6 +27,7 @@ fn reservation(whom: u8, t: Turn) -> Place
 }
 
 // Changes the book as the row says.
+#[tactic(auto, unfolding(crate::specs::Receiving::book_by))]
 fn commit(book: &mut [u8], app: &[u8], t: Turn)
     requires { (length book.old ≡ book_size) × (length app.now ≤ app_most) }
     ensures { book.new ≡ book_by book.old app.now t t.row }

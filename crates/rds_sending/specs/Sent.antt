@@ -1,5 +1,5 @@
 -- The frames that the book's calls send (RDS.md, section 5; TS 24.250, 5.4.2.4 and 5.4.2.6).
-use Rattle.std.specs.Prelude.{ℕ, ◌+◌, ◌*◌, ◌%◌, List, [], ◌∷◌, ◌++◌, Bool, true, false, get_or, eqb}
+use Rattle.std.specs.Prelude.{ℕ, ◌+◌, ◌*◌, ◌%◌, List, [], ◌∷◌, ◌++◌, Bool, get_or, eqb}
 use Rattle.base_lists.specs.Seq.{pick}
 use Rattle.rds_book.specs.declared.Place.{Place}
 use Rattle.rds_book.specs.Book.{place_of, app_of_is}

@@ -1,5 +1,6 @@
 // The frames that the book's calls send: our outstanding command, a response, an ERROR response.
 #![tactic(auto)]
+
 ghost use Rattle.std.specs.Prelude.{◌≡◌, ◌≤◌, length};
 ghost use Rattle.base_lists.specs.Seq.{put};
 ghost use Rattle.rds_book.specs.Book.{book_size, place_of};
@@ -46,6 +47,7 @@ fn asking_head(book: &[u8], c: Place) -> [u8; 4]
 }
 
 // Stores the formats that a Reserve with formats offers; how many octets.
+#[tactic(auto, using(base_lists::proofs::StoresAndParts::put_nil), unfolding(crate::specs::Sent::offered))]
 fn put_offered(book: &[u8], out: &mut [u8], at: usize, action: u8) -> usize
     requires { (length book.now ≡ book_size) × (at ≤ 276) × (277 ≤ length out.old) × (action ≡ (place_of book.now 0).tag) }
     ensures { (result ≡ length (offered book.now)) × (out.new ≡ put out.old at (offered book.now)) × (result ≤ 1) }
@@ -73,6 +75,7 @@ pub fn send_command(book: &[u8], out: &mut [u8]) -> usize
 }
 
 // Writes our response at the start of the output; its length.
+#[tactic(auto, unfolding(crate::specs::Sent::answer_frame))]
 pub fn send_answer(book: &[u8], out: &mut [u8], action: u8, format: u8, status: u16) -> usize
     requires { (length book.now ≡ book_size) × (277 ≤ length out.old) }
     ensures { (result ≡ length (answer_frame book.now action format status)) × (out.new ≡ put out.old 0 (answer_frame book.now action format status)) }
@@ -90,6 +93,7 @@ pub fn send_answer(book: &[u8], out: &mut [u8], action: u8, format: u8, status: 
 }
 
 // Writes an ERROR response to a command with these ports at the start of the output; its length.
+#[tactic(auto, unfolding(crate::specs::Sent::error_frame))]
 pub fn send_error(book: &[u8], out: &mut [u8], ads: bool, source: u8, destination: u8) -> usize
     requires { (length book.now ≡ book_size) × (277 ≤ length out.old) }
     ensures { (result ≡ length (error_frame book.now ads source destination)) × (out.new ≡ put out.old 0 (error_frame book.now ads source destination)) }

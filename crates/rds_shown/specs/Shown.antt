@@ -1,5 +1,5 @@
 -- A fresh book, and what is kept of a port (RDS.md, section 6).
-use Rattle.std.specs.Prelude.{ℕ, List, [], ◌∷◌, Bool, true, false, length, get_or, replicate, ltb, eqb}
+use Rattle.std.specs.Prelude.{ℕ, List, [], ◌∷◌, Bool, length, get_or, replicate, ltb, eqb}
 use Rattle.base_lists.specs.Seq.{pick, bit, put}
 use Rattle.base_numbers.specs.declared.Refusal.TheVariants.{WrongSize, WrongSetting}
 use Rattle.base_numbers.specs.Numbers.{number_of}

@@ -1,5 +1,6 @@
 // A fresh book, and what is kept of a port.
 #![tactic(auto)]
+
 ghost use Rattle.std.specs.Prelude.{◌≡◌, ◌≤◌, ◌<◌, length, replicate};
 ghost use Rattle.base_lists.specs.Seq.{put};
 ghost use Rattle.rds_book.specs.Book.{book_size};

@@ -3,7 +3,6 @@ use Rattle.std.specs.Prelude.{ℕ, ◌%◌, List, [], Bool, true, false, get_or,
 use Rattle.base_lists.specs.Seq.{pick}
 use Rattle.rds_frame.specs.declared.Kind.{Kind}
 use Rattle.rds_frame.specs.declared.Kind.TheVariants as K
-use Rattle.rds_frame.specs.declared.Head.{Head}
 use Rattle.rds_entries.specs.Entries.{application_length}
 use Rattle.rds_body.specs.declared.Body.{Body}
 use Rattle.rds_body.specs.declared.Body.TheVariants as B

@@ -1,5 +1,6 @@
 // What a frame from the peer does: its row, by the book, and what the row tells.
 #![tactic(auto)]
+
 ghost use Rattle.std.specs.Prelude.{◌≡◌, [], ◌≤◌, ◌<◌, length, drop};
 ghost use Rattle.rds_book.specs.Book.{book_size, app_most, app_of_is, same};
 ghost use Rattle.rds_turn.specs.Turn.{application_in, application_of, repeats, collides, engaged, taken, reserved, held, released, given_format, wanting, changes, answering, reserve_turn, release_turn, asking_turn, quiet, told, own_reserved, answer_turn, error_turn, unbuilt, plain_command, plain_response, command_turn, response_turn, turn_by};
@@ -35,6 +36,7 @@ fn rest_from(s: &[u8], start: usize) -> &[u8]
 }
 
 // The Application ID that stands at a place of the frame.
+#[tactic(auto, unfolding(crate::specs::Turn::application_in))]
 fn application_in(s: &[u8], start: usize) -> &[u8]
     ensures { (result.now ≡ application_in s.now start) × (length result.now ≤ app_most) }
 {
@@ -51,6 +53,7 @@ fn nothing(s: &[u8]) -> &[u8]
 }
 
 // The Application ID of a Reserve or Release command.
+#[tactic(auto, unfolding(crate::specs::Turn::application_of))]
 pub fn application_of(s: &[u8], body: Body) -> &[u8]
     ensures { (result.now ≡ application_of s.now body) × (length result.now ≤ app_most) }
 {
@@ -165,6 +168,7 @@ fn is_held(book: &[u8], app: &[u8], d: u8) -> bool
 }
 
 // The row of a Release command.
+#[tactic(auto, unfolding(crate::specs::Turn::released))]
 fn release_row(book: &[u8], app: &[u8], d: u8) -> Row
     requires { (length book.now ≡ book_size) × (d < 16) }
     ensures { result ≡ released book.now app.now d }
@@ -398,6 +402,7 @@ fn plain_response(book: &[u8], ads: bool, m: u8) -> Turn
     quiet()
 }
 
+#[tactic(auto, unfolding(crate::specs::Turn::command_turn))]
 fn command_turn(book: &[u8], app: &[u8], m: u8, body: Body) -> Turn
     requires { length book.now ≡ book_size }
     ensures { result ≡ command_turn book.now app.now m body }
@@ -429,6 +434,7 @@ fn command_turn(book: &[u8], app: &[u8], m: u8, body: Body) -> Turn
     }
 }
 
+#[tactic(auto, unfolding(crate::specs::Turn::response_turn))]
 fn response_turn(book: &[u8], ads: bool, m: u8, body: Body) -> Turn
     requires { length book.now ≡ book_size }
     ensures { result ≡ response_turn book.now ads m body }
@@ -449,6 +455,7 @@ fn response_turn(book: &[u8], ads: bool, m: u8, body: Body) -> Turn
 }
 
 // What a frame with this header and this body does.
+#[tactic(auto, unfolding(crate::specs::Turn::turn_by))]
 pub fn turn_of(book: &[u8], app: &[u8], ads: bool, kind: Kind, body: Body) -> Turn
     requires { length book.now ≡ book_size }
     ensures { result ≡ turn_by book.now app.now ads body kind }

@@ -1,5 +1,5 @@
 -- A frame beside the frame that was written from it (RDS.md, section 9, promise 3).
-use Rattle.std.specs.Prelude.{ℕ, ◌≡◌, List, ◌∷◌, [], map, true}
+use Rattle.std.specs.Prelude.{ℕ, ◌≡◌, List, [], map, true}
 use Rattle.base_lists.specs.Seq.{part}
 use Rattle.rds_frame.specs.declared.Head.{Head}
 use Rattle.rds_entries.specs.declared.Entry.{Entry}

@@ -1,5 +1,6 @@
 // Which row of document 01, "Events", an event meets: in a state, and without a live record.
 #![tactic(auto)]
+
 ghost use Rattle.std.specs.Prelude.{◌≡◌};
 ghost use Rattle.row_choice.specs.Rows.{free_row, row_of, requested_of, invoke0_of, by_class, invoke12_of, opening_of};
 

@@ -1,5 +1,6 @@
 // The right-hand side of a row as data: its columns, and the shapes that the rows have in common.
 #![tactic(auto)]
+
 ghost use Rattle.std.specs.Prelude.{◌≡◌};
 ghost use Rattle.row_columns.specs.Columns.{act_with, ended, aborted, aborted_unseen, kept, resent, held_on, holding_on, waiting, taken, acked, stored, sent, verifying, shown};
 

@@ -1,5 +1,6 @@
 // What the rows ask of a record beside its state.
 #![tactic(auto)]
+
 ghost use Rattle.std.specs.Prelude.{◌≡◌};
 ghost use Rattle.row_conditions.specs.Conditions.{more_of, mark_of, limited_of, conditions_of};
 

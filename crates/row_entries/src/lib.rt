@@ -1,5 +1,6 @@
 // What each row does: its right-hand side.
 #![tactic(auto)]
+
 ghost use Rattle.std.specs.Prelude.{◌≡◌};
 ghost use Rattle.row_entries.specs.Acts.{resent_of, act_of, opening_act};
 

@@ -1,5 +1,6 @@
 // The rows of the initiator's states: one function a state, one arm an event.
 #![tactic(auto)]
+
 ghost use Rattle.std.specs.Prelude.{◌≡◌};
 ghost use Rattle.row_initiator.specs.Initiator.{result_wait1, result_wait2, result_resp_wait, wait_timeout};
 

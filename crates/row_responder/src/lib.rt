@@ -1,5 +1,6 @@
 // The rows of the responder's states: one function a state, one arm an event.
 #![tactic(auto)]
+
 ghost use Rattle.std.specs.Prelude.{◌≡◌};
 ghost use Rattle.row_responder.specs.Responder.{tidok_wait, invoke_resp_wait1, invoke_resp_wait2, result_wait, result_resp_wait, wait_timeout};
 

@@ -9,7 +9,7 @@ pub is_app_spec : {M : Type 1} → statement M
 unfolding is_app
 is_app_spec =
     tie.close (tie.spec
-    (λ c. simp (lt-ltb _ _ c.if1.true, lt-leb _ _ c.if1.true))
-    (λ c. simp (lt-ltb _ _ c.if2.true, lt-leb _ _ c.if2.true, le-ltb _ _ c.before.if1.false, le-leb _ _ c.before.if1.false))
+    (λ c. simp (lt-ltb _ _ c.if-app-lt17.true, lt-leb _ _ c.if-app-lt17.true))
+    (λ c. simp (lt-ltb _ _ c.if-app-gt272.true, lt-leb _ _ c.if-app-gt272.true, le-ltb _ _ c.before.if-app-lt17.false, le-leb _ _ c.before.if-app-lt17.false))
     (λ c. search rules) (λ c κs. search rules) (λ c. search rules)
-    (λ c. simp (← c.size.ensures.0, le-ltb _ _ c.before.before.if2.false, le-leb _ _ c.before.before.if2.false, le-ltb _ _ c.before.before.before.if1.false, le-leb _ _ c.before.before.before.if1.false)))
+    (λ c. simp (← c.size.ensures.0, le-ltb _ _ c.before.before.if-app-gt272.false, le-leb _ _ c.before.before.if-app-gt272.false, le-ltb _ _ c.before.before.before.if-app-lt17.false, le-leb _ _ c.before.before.before.if-app-lt17.false)))

@@ -10,5 +10,5 @@ unfolding outstanding
 is_outstanding_spec =
     tie.close (tie.spec
     (λ c κs. search rules)
-    (λ c. simp (eq-eqb _ _ c.if1.true, ← c.before.before.place_at.ensures))
-    (λ c. simp (ne_eqb _ _ c.if1.false, ← c.before.before.place_at.ensures)))
+    (λ c. simp (eq-eqb _ _ c.if-c-eq0.true, ← c.before.before.place_at-c.ensures))
+    (λ c. simp (ne_eqb _ _ c.if-c-eq0.false, ← c.before.before.place_at-c.ensures)))

@@ -9,8 +9,8 @@ pub is_reserved_spec : {M : Type 1} → statement M
 unfolding is_reserved
 is_reserved_spec =
     tie.close (tie.spec
-    (λ c. simp (eq-eqb _ _ c.if1.true))
-    (λ c. simp (lt-ltb _ _ c.if2.true, lt-leb _ _ c.if2.true, ne_eqb _ _ c.before.if1.false))
+    (λ c. simp (eq-eqb _ _ c.if-own-eq0.true))
+    (λ c. simp (lt-ltb _ _ c.if-own-gt15.true, lt-leb _ _ c.if-own-gt15.true, ne_eqb _ _ c.before.if-own-eq0.false))
     (λ c κs. search rules)
-    (λ c. simp (eq-eqb _ _ c.if3.true, ← c.before.before.place_at.ensures, le-ltb _ _ c.before.before.before.if2.false, le-leb _ _ c.before.before.before.if2.false, ne_eqb _ _ c.before.before.before.before.if1.false))
-    (λ c. simp (ne_eqb _ _ c.if3.false, ← c.before.before.place_at.ensures, le-ltb _ _ c.before.before.before.if2.false, le-leb _ _ c.before.before.before.if2.false, ne_eqb _ _ c.before.before.before.before.if1.false)))
+    (λ c. simp (eq-eqb _ _ c.if-x-eq0.true, ← c.before.before.place_at-x.ensures, le-ltb _ _ c.before.before.before.if-own-gt15.false, le-leb _ _ c.before.before.before.if-own-gt15.false, ne_eqb _ _ c.before.before.before.before.if-own-eq0.false))
+    (λ c. simp (ne_eqb _ _ c.if-x-eq0.false, ← c.before.before.place_at-x.ensures, le-ltb _ _ c.before.before.before.if-own-gt15.false, le-leb _ _ c.before.before.before.if-own-gt15.false, ne_eqb _ _ c.before.before.before.before.if-own-eq0.false)))

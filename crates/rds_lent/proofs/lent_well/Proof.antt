@@ -9,7 +9,7 @@ pub lent_well_spec : {M : Type 1} → statement M
 unfolding lent_well
 lent_well_spec =
     tie.close (tie.spec
-    (λ c. simp (lt-ltb _ _ c.if1.true, lt-leb _ _ c.if1.true))
-    (λ c. simp (lt-ltb _ _ c.if2.true, lt-leb _ _ c.if2.true, le-ltb _ _ c.before.if1.false, le-leb _ _ c.before.if1.false))
+    (λ c. simp (lt-ltb _ _ c.if-answer-lt16.true, lt-leb _ _ c.if-answer-lt16.true))
+    (λ c. simp (lt-ltb _ _ c.if-out-lt277.true, lt-leb _ _ c.if-out-lt277.true, le-ltb _ _ c.before.if-answer-lt16.false, le-leb _ _ c.before.if-answer-lt16.false))
     (λ c κs. search rules)
-    (λ c. simp (c.well-formed-2.ensures, le-ltb _ _ c.before.if2.false, le-leb _ _ c.before.if2.false, le-ltb _ _ c.before.before.if1.false, le-leb _ _ c.before.before.if1.false)))
+    (λ c. simp (c.well_formed-2.ensures, le-ltb _ _ c.before.if-out-lt277.false, le-leb _ _ c.before.if-out-lt277.false, le-ltb _ _ c.before.before.if-answer-lt16.false, le-leb _ _ c.before.before.if-answer-lt16.false)))

@@ -9,9 +9,9 @@ unfolding not_now
 not_now_spec =
     tie.close (tie.spec
     (λ c κs. search rules)
-    (λ c. simp (c.if1.true, ← c.before.is-outstanding.ensures))
+    (λ c. simp (c.if-is_outstanding.true, ← c.before.is_outstanding.ensures))
     (λ c κs. search rules)
-    (λ c. simp (c.if2.true, ← c.before.is-reserved.ensures, c.before.before.if1.false, ← c.before.before.before.is-outstanding.ensures))
+    (λ c. simp (c.if-is_reserved.true, ← c.before.is_reserved.ensures, c.before.before.if-is_outstanding.false, ← c.before.before.before.is_outstanding.ensures))
     (λ c. search rules)
-    (λ c. simp (c.before.if3.true, c.before.before.if2.false, ← c.before.before.before.is-reserved.ensures, c.before.before.before.before.if1.false, ← c.before.before.before.before.before.is-outstanding.ensures))
-    (λ c. simp (c.if3.false, c.before.if2.false, ← c.before.before.is-reserved.ensures, c.before.before.before.if1.false, ← c.before.before.before.before.is-outstanding.ensures)))
+    (λ c. simp (c.before.if-with.true, c.before.before.if-is_reserved.false, ← c.before.before.before.is_reserved.ensures, c.before.before.before.before.if-is_outstanding.false, ← c.before.before.before.before.before.is_outstanding.ensures))
+    (λ c. simp (c.if-with.false, c.before.if-is_reserved.false, ← c.before.before.is_reserved.ensures, c.before.before.before.if-is_outstanding.false, ← c.before.before.before.before.is_outstanding.ensures)))

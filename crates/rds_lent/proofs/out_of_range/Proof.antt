@@ -8,6 +8,6 @@ pub out_of_range_spec : {M : Type 1} → statement M
 unfolding out_of_range_is
 out_of_range_spec =
     tie.close (tie.spec
-    (λ c. simp (eq-eqb _ _ c.if1.true))
-    (λ c. simp (lt-ltb _ _ c.if2.true, lt-leb _ _ c.if2.true, ne_eqb _ _ c.before.if1.false))
-    (λ c. simp (le-ltb _ _ c.if2.false, le-leb _ _ c.if2.false, ne_eqb _ _ c.before.if1.false)))
+    (λ c. simp (eq-eqb _ _ c.if-own-eq0.true))
+    (λ c. simp (lt-ltb _ _ c.if-own-gt15.true, lt-leb _ _ c.if-own-gt15.true, ne_eqb _ _ c.before.if-own-eq0.false))
+    (λ c. simp (le-ltb _ _ c.if-own-gt15.false, le-leb _ _ c.if-own-gt15.false, ne_eqb _ _ c.before.if-own-eq0.false)))

@@ -9,4 +9,4 @@ unfolding releasing
 releasing_spec =
     tie.close (tie.spec
     (λ c κs. search rules) (λ c. search rules)
-    (λ c. simp (← c.place_at.ensures)))
+    (λ c. simp (← c.place_at-x.ensures)))

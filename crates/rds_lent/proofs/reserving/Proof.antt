@@ -9,6 +9,6 @@ unfolding reserving
 reserving_spec =
     tie.close (tie.spec
     (λ c. search rules) (λ c. search rules)
-    (λ c. simp c.if1.true)
+    (λ c. simp c.if-with.true)
     (λ c. search rules) (λ c. search rules)
-    (λ c. simp c.if1.false))
+    (λ c. simp c.if-with.false))

@@ -8,7 +8,7 @@ use Rattle.rds_lent.proofs.send.Tie as tie
 returns : tie.Need-returns
 unfolding sending
 returns c =
-    let k = c.before.before.before.before.before.before.send-command in
+    let k = c.before.before.before.before.before.before.send_command-n in
     rw (c.before.before.store_length.ensures, k.ensures.1, k.ensures.0) refl
 
 pub send_spec : {M : Type 1} → statement M

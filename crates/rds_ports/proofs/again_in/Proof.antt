@@ -9,6 +9,6 @@ unfolding again_in
 again_in_spec =
     tie.close (tie.spec
     (λ c κs. search rules) (λ c κs. search rules) (λ c. search rules) (λ c. search rules)
-    (λ c. simp (c.before.before.before.before.send.ensures, c.before.before.before.before.before.before.before.if1.true, ← c.before.before.before.before.before.before.before.before.is-outstanding.ensures))
+    (λ c. simp (c.before.before.before.before.send.ensures, c.before.before.before.before.before.before.before.if-is_outstanding.true, ← c.before.before.before.before.before.before.before.before.is_outstanding.ensures))
     (λ c κs. search rules)
-    (λ c. simp (c.number.ensures, c.before.if1.false, ← c.before.before.is-outstanding.ensures)))
+    (λ c. simp (c.number.ensures, c.before.if-is_outstanding.false, ← c.before.before.is_outstanding.ensures)))

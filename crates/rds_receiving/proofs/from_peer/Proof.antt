@@ -10,5 +10,5 @@ unfolding from_peer
 from_peer_spec =
     tie.close (tie.spec
     (λ c. search rules)
-    (λ c. simp (eq-eqb _ _ c.if1.true))
-    (λ c. simp (ne_eqb _ _ c.if1.false)))
+    (λ c. simp (eq-eqb _ _ c.if-book-eq1.true))
+    (λ c. simp (ne_eqb _ _ c.if-book-eq1.false)))

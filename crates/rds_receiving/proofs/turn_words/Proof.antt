@@ -10,4 +10,4 @@ turn_words_spec =
     tie.close (tie.spec
     (λ c κs. search rules) (λ c κs. search rules) (λ c. search rules) (λ c. search rules) (λ c. search rules)
     (λ c. search rules) (λ c. search rules) (λ c. search rules)
-    (λ c. simp (c.before.before.before.before.before.before.flag.ensures, c.before.before.before.before.before.before.before.event.ensures)))
+    (λ c. simp (c.before.before.before.before.before.before.flag-changed.ensures, c.before.before.before.before.before.before.before.event-event.ensures)))

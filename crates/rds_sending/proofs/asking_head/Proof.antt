@@ -9,4 +9,4 @@ unfolding asking_head
 asking_head_spec =
     tie.close (tie.spec
     (λ c κs. search rules) (λ c κs. search rules)
-    (λ c. simp (c.ports-octet.ensures, c.before.command-octet.ensures)))
+    (λ c. simp (c.ports_octet-ports.ensures, c.before.command_octet-first.ensures)))

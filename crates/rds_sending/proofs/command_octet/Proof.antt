@@ -10,5 +10,5 @@ unfolding command_octet
 command_octet_spec =
     tie.close (tie.spec
     (λ c. search rules)
-    (λ c. simp (eq-eqb _ _ c.if1.true))
-    (λ c. simp (ne_eqb _ _ c.if1.false)))
+    (λ c. simp (eq-eqb _ _ c.if-book-eq1.true))
+    (λ c. simp (ne_eqb _ _ c.if-book-eq1.false)))

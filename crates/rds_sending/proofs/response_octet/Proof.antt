@@ -10,5 +10,5 @@ unfolding response_octet
 response_octet_spec =
     tie.close (tie.spec
     (λ c. search rules)
-    (λ c. (simp (eq-eqb _ _ c.if1.true), search rules))
-    (λ c. (simp (ne_eqb _ _ c.if1.false), search rules)))
+    (λ c. (simp (eq-eqb _ _ c.if-book-eq1.true), search rules))
+    (λ c. (simp (ne_eqb _ _ c.if-book-eq1.false), search rules)))

@@ -8,18 +8,18 @@ use Rattle.rds_shown.proofs.Cleared.{naught, none_cleared, more_cleared, all_cle
 use Rattle.rds_shown.proofs.clear_all.Statement.{statement}
 use Rattle.rds_shown.proofs.clear_all.Tie as tie
 
-abbrev invariant-loop : tie.invariant-loop
-invariant-loop t₀ k₀ t k = Stored t₀ 0 (naught t₀) t k
+abbrev invariant-loop-k : tie.invariant-loop-k
+invariant-loop-k t₀ k₀ t k = Stored t₀ 0 (naught t₀) t k
 
-abbrev decreases-loop : tie.decreases-loop
-decreases-loop t₀ k₀ t k = length t₀ - k
+abbrev decreases-loop-k : tie.decreases-loop-k
+decreases-loop-k t₀ k₀ t k = length t₀ - k
 
 pub clear_all_spec : {M : Type 1} → statement M
 clear_all_spec =
     tie.close (tie.spec
-    invariant-loop decreases-loop
+    invariant-loop-k decreases-loop-k
     (λ c. none_cleared c.args.book.now)
     (λ c. search rules) (λ c. search rules) (λ c. search rules)
-    (λ c. more_cleared c.before.before.args.book.now c.before.loop.book c.before.loop.k (omega arith) c.before.loop.invariant)
-    (λ c. c.before.loop.invariant.1.1)
-    (λ c. all_cleared c.before.before.args.book.now c.before.loop.book c.before.loop.k (omega arith) c.before.loop.invariant))
+    (λ c. more_cleared c.before.before.args.book.now c.before.loop-k.book c.before.loop-k.k (omega arith) c.before.loop-k.invariant)
+    (λ c. c.before.loop-k.invariant.1.1)
+    (λ c. all_cleared c.before.before.args.book.now c.before.loop-k.book c.before.loop-k.k (omega arith) c.before.loop-k.invariant))

@@ -9,4 +9,4 @@ unfolding command_words
 command_words_spec =
     tie.close (tie.spec
     (λ c. search rules) (λ c. search rules) (λ c. search rules) (λ c κs. search rules) (λ c. search rules)
-    (λ c. simp (← c.offered.ensures)))
+    (λ c. simp (← c.offered-offers.ensures)))

@@ -8,5 +8,5 @@ pub offered_spec : {M : Type 1} → statement M
 unfolding offered_number
 offered_spec =
     tie.close (tie.spec
-    (λ c. simp (eq-eqb _ _ c.if1.true))
-    (λ c. simp (ne_eqb _ _ c.if1.false)))
+    (λ c. simp (eq-eqb _ _ c.if-action-eq5.true))
+    (λ c. simp (ne_eqb _ _ c.if-action-eq5.false)))

@@ -11,7 +11,7 @@ unfolding fresh_book put
 returns c =
     let d = c.before.before.before.before.before.before.before in
     let e = d.before.before in
-    c.before.before.store.ensures ∙ rw (d.clear_all.ensures, e.before.before.requires, e.bit.ensures.0) refl
+    c.before.before.store.ensures ∙ rw (d.clear_all.ensures, e.before.before.requires, e.bit-side.ensures.0) refl
 
 pub put_fresh_spec : {M : Type 1} → statement M
 put_fresh_spec =

@@ -11,8 +11,8 @@ unfolding told_words length_words
 told_words_spec =
     tie.close (tie.spec
     (λ c κs. search rules)
-    (λ c. simp (eq-eqb _ _ c.if1.true, ← c.before.before.place_at.ensures))
+    (λ c. simp (eq-eqb _ _ c.if-x-eq0.true, ← c.before.before.place_at-x.ensures))
     (λ c κs. search rules) (λ c. search rules) (λ c κs. search rules)
-    (λ c. simp (c.command-words.ensures, eq-eqb _ _ c.before.before.if2.true, c.before.before.before.app-length.ensures.0, ne_eqb _ _ c.before.before.before.before.if1.false, ← c.before.before.before.before.before.before.place_at.ensures))
+    (λ c. simp (c.command_words.ensures, eq-eqb _ _ c.before.before.if-p-eq0.true, c.before.before.before.app_length-n.ensures.0, ne_eqb _ _ c.before.before.before.before.if-x-eq0.false, ← c.before.before.before.before.before.before.place_at-x.ensures))
     (λ c κs. search rules)
-    (λ c. simp (c.port-words.ensures, ne_eqb _ _ c.before.if2.false, c.before.before.app-length.ensures.0, ne_eqb _ _ c.before.before.before.if1.false, ← c.before.before.before.before.before.place_at.ensures)))
+    (λ c. simp (c.port_words.ensures, ne_eqb _ _ c.before.if-p-eq0.false, c.before.before.app_length-n.ensures.0, ne_eqb _ _ c.before.before.before.if-x-eq0.false, ← c.before.before.before.before.before.place_at-x.ensures)))

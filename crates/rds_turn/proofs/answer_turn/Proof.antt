@@ -10,8 +10,8 @@ unfolding answer_turn
 answer_turn_spec =
     tie.close (tie.spec
     (λ c κs. search rules) (λ c κs. search rules)
-    (λ c. simp (c.quiet.ensures, eq-eqb _ _ c.before.if1.true, ← c.before.before.before.place_at.ensures))
+    (λ c. simp (c.quiet.ensures, eq-eqb _ _ c.before.if-c-eq0.true, ← c.before.before.before.place_at-c.ensures))
     (λ c κs. search rules) (λ c κs. search rules) (λ c κs. search rules) (λ c κs. search rules)
-    (λ c. simp (c.told.ensures, c.before.has-changed.ensures, c.before.before.own-reserved.ensures, c.before.before.before.answer-row.ensures, eq-eqb _ _ c.before.before.before.before.if2.true, ne_eqb _ _ c.before.before.before.before.before.before.if1.false, ← c.before.before.before.before.before.before.before.before.place_at.ensures))
+    (λ c. simp (c.told.ensures, c.before.has_changed-changed.ensures, c.before.before.own_reserved.ensures, c.before.before.before.answer_row-row.ensures, eq-eqb _ _ c.before.before.before.before.if-c-action.true, ne_eqb _ _ c.before.before.before.before.before.before.if-c-eq0.false, ← c.before.before.before.before.before.before.before.before.place_at-c.ensures))
     (λ c κs. search rules)
-    (λ c. simp (c.quiet2.ensures, ne_eqb _ _ c.before.if2.false, ne_eqb _ _ c.before.before.before.if1.false, ← c.before.before.before.before.before.place_at.ensures)))
+    (λ c. simp (c.quiet-2.ensures, ne_eqb _ _ c.before.if-c-action.false, ne_eqb _ _ c.before.before.before.if-c-eq0.false, ← c.before.before.before.before.before.place_at-c.ensures)))

@@ -9,4 +9,4 @@ unfolding answering
 answering_spec =
     tie.close (tie.spec
     (λ c κs. search rules) (λ c. search rules) (λ c κs. search rules)
-    (λ c. simp (← c.has-changed.ensures, ← c.before.status.ensures)))
+    (λ c. simp (← c.has_changed-changed.ensures, ← c.before.status-status.ensures)))

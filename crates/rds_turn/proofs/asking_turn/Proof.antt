@@ -10,6 +10,6 @@ unfolding asking_turn release_turn
 asking_turn_spec =
     tie.close (tie.spec
     (λ c κs. search rules) (λ c κs. search rules)
-    (λ c. simp (c.answering.ensures, c.before.release-row.ensures, eq-eqb _ _ c.before.before.if1.true))
+    (λ c. simp (c.answering.ensures, c.before.release_row-row.ensures, eq-eqb _ _ c.before.before.if-action-eq2.true))
     (λ c. search rules) (λ c κs. search rules) (λ c κs. search rules)
-    (λ c. simp (c.reserve-turn.ensures, c.before.given-format.ensures, ne_eqb _ _ c.before.before.before.if1.false)))
+    (λ c. simp (c.reserve_turn.ensures, c.before.given_format-given.ensures, ne_eqb _ _ c.before.before.before.if-action-eq2.false)))

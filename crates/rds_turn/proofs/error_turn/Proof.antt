@@ -10,8 +10,8 @@ unfolding error_turn
 error_turn_spec =
     tie.close (tie.spec
     (λ c κs. search rules)
-    (λ c. simp (c.quiet.ensures, c.before.if1.true))
+    (λ c. simp (c.quiet.ensures, c.before.if-ads.true))
     (λ c κs. search rules) (λ c κs. search rules)
-    (λ c. simp (c.quiet2.ensures, eq-eqb _ _ c.before.if2.true, ← c.before.before.before.place_at.ensures, c.before.before.before.before.if1.false))
+    (λ c. simp (c.quiet-then-c-eq0.ensures, eq-eqb _ _ c.before.if-c-eq0.true, ← c.before.before.before.place_at-c.ensures, c.before.before.before.before.if-ads.false))
     (λ c κs. search rules)
-    (λ c. simp (c.told.ensures, ne_eqb _ _ c.before.if2.false, ← c.before.before.before.place_at.ensures, c.before.before.before.before.if1.false)))
+    (λ c. simp (c.told.ensures, ne_eqb _ _ c.before.if-c-eq0.false, ← c.before.before.before.place_at-c.ensures, c.before.before.before.before.if-ads.false)))

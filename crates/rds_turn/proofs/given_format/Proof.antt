@@ -10,5 +10,5 @@ unfolding given_format
 given_format_spec =
     tie.close (tie.spec
     (λ c κs. search rules)
-    (λ c. simp (c.best.ensures, eq-eqb _ _ c.before.if1.true))
-    (λ c. simp (ne_eqb _ _ c.if1.false)))
+    (λ c. simp (c.best.ensures, eq-eqb _ _ c.before.if-action-eq5.true))
+    (λ c. simp (ne_eqb _ _ c.if-action-eq5.false)))

@@ -10,7 +10,7 @@ unfolding collides
 is_collision_spec =
     tie.close (tie.spec
     (λ c κs. search rules)
-    (λ c. simp (eq-eqb _ _ c.if1.true, ← c.before.before.place_at.ensures))
+    (λ c. simp (eq-eqb _ _ c.if-c-eq2.true, ← c.before.before.place_at-c.ensures))
     (λ c κs. search rules)
-    (λ c. simp (c.keeps.ensures, eq-eqb _ _ c.before.if2.true, ne_eqb _ _ c.before.before.before.if1.false, ← c.before.before.before.before.before.place_at.ensures))
-    (λ c. simp (ne_eqb _ _ c.if2.false, ne_eqb _ _ c.before.before.if1.false, ← c.before.before.before.before.place_at.ensures)))
+    (λ c. simp (c.keeps.ensures, eq-eqb _ _ c.before.if-c-s.true, ne_eqb _ _ c.before.before.before.if-c-eq2.false, ← c.before.before.before.before.before.place_at-c.ensures))
+    (λ c. simp (ne_eqb _ _ c.if-c-s.false, ne_eqb _ _ c.before.before.if-c-eq2.false, ← c.before.before.before.before.place_at-c.ensures)))

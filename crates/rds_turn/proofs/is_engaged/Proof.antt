@@ -10,8 +10,8 @@ unfolding engaged
 is_engaged_spec =
     tie.close (tie.spec
     (λ c κs. search rules)
-    (λ c. simp (eq-eqb _ _ c.if1.true, ← c.before.before.place_at.ensures))
+    (λ c. simp (eq-eqb _ _ c.if-c-eq0.true, ← c.before.before.place_at-c.ensures))
     (λ c κs. search rules)
-    (λ c. simp (c.if3.true, ← c.before.is-collision.ensures, eq-eqb _ _ c.before.before.if2.true, ne_eqb _ _ c.before.before.before.before.if1.false, ← c.before.before.before.before.before.before.place_at.ensures))
-    (λ c. simp (c.if3.false, ← c.before.is-collision.ensures, eq-eqb _ _ c.before.before.if2.true, ne_eqb _ _ c.before.before.before.before.if1.false, ← c.before.before.before.before.before.before.place_at.ensures))
-    (λ c. simp (ne_eqb _ _ c.if2.false, ne_eqb _ _ c.before.before.if1.false, ← c.before.before.before.before.place_at.ensures)))
+    (λ c. simp (c.if-is_collision.true, ← c.before.is_collision.ensures, eq-eqb _ _ c.before.before.if-c-d.true, ne_eqb _ _ c.before.before.before.before.if-c-eq0.false, ← c.before.before.before.before.before.before.place_at-c.ensures))
+    (λ c. simp (c.if-is_collision.false, ← c.before.is_collision.ensures, eq-eqb _ _ c.before.before.if-c-d.true, ne_eqb _ _ c.before.before.before.before.if-c-eq0.false, ← c.before.before.before.before.before.before.place_at-c.ensures))
+    (λ c. simp (ne_eqb _ _ c.if-c-d.false, ne_eqb _ _ c.before.before.if-c-eq0.false, ← c.before.before.before.before.place_at-c.ensures)))

@@ -10,6 +10,6 @@ unfolding held
 is_held_spec =
     tie.close (tie.spec
     (λ c κs. search rules) (λ c κs. search rules)
-    (λ c. simp (eq-eqb _ _ c.if1.true, ← c.before.before.place_at.ensures, ← c.before.before.before.size.ensures.0))
+    (λ c. simp (eq-eqb _ _ c.if-x-eq0.true, ← c.before.before.place_at-x.ensures, ← c.before.before.before.size-p.ensures.0))
     (λ c κs. search rules)
-    (λ c. simp (c.keeps.ensures, ne_eqb _ _ c.before.if1.false, ← c.before.before.before.place_at.ensures, ← c.before.before.before.before.size.ensures.0)))
+    (λ c. simp (c.keeps.ensures, ne_eqb _ _ c.before.if-x-eq0.false, ← c.before.before.before.place_at-x.ensures, ← c.before.before.before.before.size-p.ensures.0)))

@@ -10,5 +10,5 @@ unfolding taken
 is_taken_spec =
     tie.close (tie.spec
     (λ c κs. search rules) (λ c κs. search rules) (λ c κs. search rules)
-    (λ c. simp (c.is-engaged.ensures, eq-eqb _ _ c.before.if1.true, ← c.before.before.before.place_at.ensures, ← c.before.before.before.before.size.ensures.0))
-    (λ c. simp (ne_eqb _ _ c.if1.false, ← c.before.before.place_at.ensures, ← c.before.before.before.size.ensures.0)))
+    (λ c. simp (c.is_engaged.ensures, eq-eqb _ _ c.before.if-x-eq0.true, ← c.before.before.before.place_at-x.ensures, ← c.before.before.before.before.size.ensures.0))
+    (λ c. simp (ne_eqb _ _ c.if-x-eq0.false, ← c.before.before.place_at-x.ensures, ← c.before.before.before.size.ensures.0)))

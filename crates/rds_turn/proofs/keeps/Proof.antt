@@ -7,4 +7,4 @@ pub keeps_spec : {M : Type 1} → statement M
 keeps_spec =
     tie.close (tie.spec
     (λ c κs. search rules) (λ c κs. search rules)
-    (λ c. simp (c.same-octets.ensures, c.before.app-in.ensures)))
+    (λ c. simp (c.same_octets.ensures, c.before.app_in.ensures)))

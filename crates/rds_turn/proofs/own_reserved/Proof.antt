@@ -10,5 +10,5 @@ unfolding own_reserved
 own_reserved_spec =
     tie.close (tie.spec
     (λ c κs. search rules) (λ c κs. search rules) (λ c κs. search rules)
-    (λ c. simp (eq-eqb _ _ c.if1.true, ← c.before.before.place-at2.ensures, ← c.before.before.before.size.ensures.0, ← c.before.before.before.before.place_at.ensures))
-    (λ c. simp (ne_eqb _ _ c.if1.false, ← c.before.before.place-at2.ensures, ← c.before.before.before.size.ensures.0, ← c.before.before.before.before.place_at.ensures)))
+    (λ c. simp (eq-eqb _ _ c.if-x-eq0.true, ← c.before.before.place_at-x.ensures, ← c.before.before.before.size.ensures.0, ← c.before.before.before.before.place_at-c.ensures))
+    (λ c. simp (ne_eqb _ _ c.if-x-eq0.false, ← c.before.before.place_at-x.ensures, ← c.before.before.before.size.ensures.0, ← c.before.before.before.before.place_at-c.ensures)))

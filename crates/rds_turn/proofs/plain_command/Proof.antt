@@ -10,6 +10,6 @@ unfolding plain_command
 plain_command_spec =
     tie.close (tie.spec
     (λ c κs. search rules)
-    (λ c. simp (c.quiet.ensures, eq-eqb _ _ c.before.if1.true))
+    (λ c. simp (c.quiet.ensures, eq-eqb _ _ c.before.if-m-eq1.true))
     (λ c κs. search rules)
-    (λ c. simp (c.unbuilt.ensures, ne_eqb _ _ c.before.if1.false)))
+    (λ c. simp (c.unbuilt.ensures, ne_eqb _ _ c.before.if-m-eq1.false)))

@@ -10,6 +10,6 @@ unfolding reserved
 reserve_row_spec =
     tie.close (tie.spec
     (λ c κs. search rules)
-    (λ c. simp (c.reserve-row.ensures, eq-eqb _ _ c.before.if1.true))
+    (λ c. simp (c.reserve_row.ensures, eq-eqb _ _ c.before.if-d-eq0.true))
     (λ c κs. search rules) (λ c κs. search rules) (λ c κs. search rules)
-    (λ c. simp (c.reserve-row2.ensures, c.before.is-taken.ensures, c.before.before.is-repeat.ensures, ne_eqb _ _ c.before.before.before.if1.false)))
+    (λ c. simp (c.reserve_row-2.ensures, c.before.is_taken-taken.ensures, c.before.before.is_repeat-again.ensures, ne_eqb _ _ c.before.before.before.if-d-eq0.false)))

@@ -9,4 +9,4 @@ unfolding reserve_turn
 reserve_turn_spec =
     tie.close (tie.spec
     (λ c κs. search rules) (λ c κs. search rules) (λ c. search rules) (λ c κs. search rules) (λ c κs. search rules)
-    (λ c. simp (c.answering.ensures, c.before.format.ensures, c.before.before.before.reserve-row.ensures, c.before.before.before.before.is-wanting.ensures)))
+    (λ c. simp (c.answering.ensures, c.before.format-format.ensures, c.before.before.before.reserve_row-row.ensures, c.before.before.before.before.is_wanting.ensures)))

@@ -6,4 +6,4 @@ use Rattle.rds_turn.proofs.told.Tie as tie
 
 pub told_spec : {M : Type 1} → statement M
 unfolding told
-told_spec = tie.close (tie.spec (λ c κs. search rules) (λ c. simp (← c.place_at.ensures)))
+told_spec = tie.close (tie.spec (λ c κs. search rules) (λ c. simp (← c.place_at-c.ensures)))
