@@ -10,7 +10,7 @@ use lib.Dec.{eqb}
 use lib.Seq.{ext_get_or}
 use borrow.Author.Tests.{eqb-true, eqb-false}
 use Rattle.base_lists.specs.Seq.{pick, part}
-use Rattle.base_lists.proofs.StoresAndParts.{told, both_fst, both_snd, every_at, true_false}
+use Rattle.base_lists.proofs.StoresAndParts.{both_fst, both_snd, every_at, true_false}
 use Rattle.rds_frame.specs.declared.Kind.{Kind}
 use Rattle.rds_frame.specs.declared.Kind.TheVariants as K
 use Rattle.rds_body.specs.declared.Body.{Body}

@@ -3,7 +3,7 @@ use mathlib.Core.Path.{◌≡◌, refl, sym, ◌∙◌}
 use mathlib.Core.List.{List, [], ◌∷◌}
 use mathlib.Core.Bool.{Bool, true, false}
 use mathlib.Core.Logic.{◌⊎◌, inl, inr}
-use Prim.Native.Nat.{ℕ, suc, ◌+◌, ◌*◌, ◌≤◌, ◌<◌}
+use Prim.Native.Nat.{ℕ, zero, suc, ◌+◌, ◌*◌, ◌≤◌, ◌<◌}
 use native.Mathlib.Omega.{arith}
 use lib.ListN.{length, get_or, replicate, length-replicate, get_or-replicate}
 use lib.Dec.{ltb, eqb}
@@ -38,6 +38,7 @@ pub app_of : (b : List ℕ) (p : ℕ) → Formed b → p < 16 → 1 ≤ (place_o
 app_of b p f l h = app_kept b p f.size l (used_of b p f l h).most
 
 port_range : (p : ℕ) (x : Place) → 1 ≤ p → PortRange x → InRange p x
+port_range zero x h r = elim h [ ]
 port_range (suc p) x h r = r
 
 -- the tests of `rds_reserve`
@@ -86,6 +87,7 @@ releasing_formed b own f r =
     let k = reserved_port b own r in
     keep_formed b 0 _ (app_of_is b own) f (omega arith) (omega arith) (record { action = inr (inl refl); own = k.0; own_most = omega (arith, k.1); peer = peer_of_holds own k.0 (used_of b own f k.1 k.2).range; format = refl }) (app_of b own f k.1 k.2) where
       peer_of_holds : (p : ℕ) → 1 ≤ p → InRange p (place_of b own) → (place_of b own).peer ≤ 15
+      peer_of_holds zero h r = elim h [ ]
       peer_of_holds (suc p) h r = r.peer
 
 -- a port that is reserved by this side

@@ -6,5 +6,5 @@ use Rattle.rds.proofs.is_on.Tie as tie
 pub is_on_spec : {M : Type 1} → statement M
 is_on_spec =
     tie.close (tie.spec
-    (λ c. simp (eq-eqb _ _ c.if1.true))
-    (λ c. simp (ne_eqb _ _ c.if1.false)))
+    (λ c. simp (eq-eqb _ _ c.if-flag-eq0.true))
+    (λ c. simp (ne_eqb _ _ c.if-flag-eq0.false)))

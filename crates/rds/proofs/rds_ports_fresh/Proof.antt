@@ -4,7 +4,7 @@ use Rattle.rds.proofs.rds_ports_fresh.Statement.{statement}
 use Rattle.rds.proofs.rds_ports_fresh.Tie as tie
 
 returns : tie.Need-returns
-returns c = rw c.before.before.before.is-on.ensures at c.before.before.fresh.ensures
+returns c = rw c.before.before.before.is_on.ensures at c.before.before.fresh.ensures
 
 pub rds_ports_fresh_spec : {M : Type 1} → statement M
 rds_ports_fresh_spec =

@@ -4,7 +4,7 @@ use Rattle.rds.proofs.rds_reserve.Statement.{statement}
 use Rattle.rds.proofs.rds_reserve.Tie as tie
 
 returns : tie.Need-returns
-returns c = rw c.before.before.before.before.before.before.before.is-on.ensures at c.before.before.before.before.before.before.reserve.ensures
+returns c = rw c.before.before.before.before.before.before.before.is_on.ensures at c.before.before.before.before.before.before.reserve.ensures
 
 pub rds_reserve_spec : {M : Type 1} → statement M
 rds_reserve_spec =

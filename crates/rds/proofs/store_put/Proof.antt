@@ -9,4 +9,4 @@ unfolding put_words
 store_put_spec =
     tie.close (tie.spec
     (λ c. search rules) (λ c. search rules) (λ c κs. search rules) (λ c. search rules)
-    (λ c. c.before.before.store_words_lem.ensures))
+    (λ c. c.before.before.store_words.ensures))

@@ -19,9 +19,8 @@ keep-requires c =
 pub returns : goal.returns
 unfolding app_of_is
 returns c =
-    let d = c in
-    let l = d.app_length-n in
-    let a = d.args in
+    let l = c.app_length-n in
+    let a = c.args in
     let w = part a.book.now (place_at_is a.from + 4) l.result in
     let s = stored_front w l.result (length_part a.book.now (place_at_is a.from + 4) l.result (omega arith)) l.ensures.1 in
-    c.keep.ensures ∙ rw (d.copy.ensures, s, l.ensures.0) refl
+    c.keep.ensures ∙ rw (c.copy.ensures, s, l.ensures.0) refl

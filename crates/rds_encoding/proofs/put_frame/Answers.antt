@@ -10,8 +10,7 @@ use Rattle.rds_encoding.proofs.put_frame.Goals as goal
 pub put_pieces-requires : goal.put_pieces-requires
 put_pieces-requires c =
     let h = c.put_head-at in
-    let x = c in
-    (omega (arith, h.ensures.1), omega (arith, x.requires.0), rw c.in_pieces.ensures x.requires.1)
+    (omega (arith, h.ensures.1), omega (arith, c.requires.0), rw c.in_pieces.ensures c.requires.1)
 
 pub returns : goal.returns
 unfolding octets_of

@@ -14,29 +14,25 @@ use Rattle.rds_encoding.proofs.put_pieces.Goals as goal
 
 pub store-requires : goal.store-requires
 store-requires c =
-    let x = c in
-    let p = x.args.p in
-    omega (arith, x.requires.0, x.requires.1, x.requires.2.fronts_fit, x.requires.2.size_fits, length-take-le p.fronts p.front (omega (arith, x.requires.2.fronts_fit)))
+    let p = c.args.p in
+    omega (arith, c.requires.0, c.requires.1, c.requires.2.fronts_fit, c.requires.2.size_fits, length-take-le p.fronts p.front (omega (arith, c.requires.2.fronts_fit)))
 
 pub store-requires-2 : goal.store-requires-2
 store-requires-2 c =
-    let x = c in
-    let p = x.args.p in
-    let f = x.requires.2 in
-    omega (arith, x.requires.0, x.requires.1, f.tails_fit, f.size_fits, c.put_entries-last.ensures.0, length-take-le p.tails p.tail (omega (arith, f.tails_fit)))
+    let p = c.args.p in
+    let f = c.requires.2 in
+    omega (arith, c.requires.0, c.requires.1, f.tails_fit, f.size_fits, c.put_entries-last.ensures.0, length-take-le p.tails p.tail (omega (arith, f.tails_fit)))
 
 pub overflow_add-result : goal.overflow_add-result
 overflow_add-result c =
-    let x = c in
-    omega (arith, x.requires.0, x.requires.2.size_fits, c.put_entries-last.ensures.0)
+    omega (arith, c.requires.0, c.requires.2.size_fits, c.put_entries-last.ensures.0)
 
 pub returns : goal.returns
 unfolding pieces_octets
 returns c =
-    let x = c in
-    let a = x.args in
+    let a = c.args in
     let p = a.p in
-    let f = x.requires.2 in
+    let f = c.requires.2 in
     let bytes = a.bytes.now in
     let all : p.count ≤ length a.list = omega (arith, f.count_fits) in
     let lf : length (take p.fronts p.front) ≡ p.fronts = length-take-le p.fronts p.front (omega (arith, f.fronts_fit)) in

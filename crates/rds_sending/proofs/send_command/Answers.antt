@@ -17,16 +17,13 @@ put_offered-more-requires c =
 pub returns : goal.returns
 unfolding app_of_is asking_head command_frame
 returns c =
-    let d = c in
-    let e = d in
-    let l = e.app_length-n in
-    let h = e.asking_head-head in
-    let g = e in
-    let b = g.args.book.now in
-    let o = g.args.out.now in
+    let l = c.app_length-n in
+    let h = c.asking_head-head in
+    let b = c.args.book.now in
+    let o = c.args.out.now in
     let x = place_of b 0 in
     let f : length (app_of_is b 0) ≡ app_length b 0 = length_part b 6 (app_length b 0) (omega (arith, l.ensures.0, l.ensures.1)) in
     let k = c.put_offered-more in (
       rw (k.ensures.0, l.ensures.0) (sent_length (command_octet b) 10 x.tag (ports_octet x.own x.peer) (app_length b 0) (app_of_is b 0) (offered b) f),
-      k.ensures.1 ∙ rw (d.copy.ensures, e.store.ensures, h.ensures, g.place_at-c.ensures, l.ensures.0) (sent_stored (command_octet b) 10 x.tag (ports_octet x.own x.peer) (app_length b 0) (app_of_is b 0) (offered b) f o),
+      k.ensures.1 ∙ rw (c.copy.ensures, c.store.ensures, h.ensures, c.place_at-c.ensures, l.ensures.0) (sent_stored (command_octet b) 10 x.tag (ports_octet x.own x.peer) (app_length b 0) (app_of_is b 0) (offered b) f o),
     )
