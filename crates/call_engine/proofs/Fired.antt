@@ -2,15 +2,12 @@
 use Prim.Native.Nat.{ℕ, ◌≤◌, ◌<◌}
 use mathlib.Core.Path.{◌≡◌, refl, sym, ◌∙◌}
 use mathlib.Core.List.{List, []}
-use lib.ListN.{length}
 use Rattle.base_layout.specs.Layout.{time_bound, tid_bound, records_bound}
 use Rattle.base_numbers.specs.declared.Refusal.{Refusal}
 use Rattle.row_turns.specs.declared.Given.{Given}
 use Rattle.table_layout.specs.Table.{count, record_at}
 use Rattle.table_finding.specs.Finding.{due_of}
 use Rattle.table_finding.specs.declared.Found.{Found}
-use Rattle.table_finding.specs.declared.Found.TheVariants as Found
-use Rattle.table_well_formed.specs.WellFormed.{WellFormed}
 use Rattle.step_plan.specs.Steps.{idle_step}
 use Rattle.step_plan.specs.declared.Call.{Call}
 use Rattle.step_plan.specs.declared.Plan.TheVariants as Plan

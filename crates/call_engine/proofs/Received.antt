@@ -8,7 +8,6 @@ use Rattle.base_numbers.specs.declared.Refusal.{Refusal}
 use Rattle.row_turns.specs.declared.Given.{Given}
 use Rattle.step_plan.specs.Steps.{idle_step}
 use Rattle.step_plan.specs.declared.Call.{Call}
-use Rattle.step_plan.specs.declared.Step.{Step}
 use Rattle.step_plan.specs.declared.Plan.TheVariants as Plan
 use Rattle.step_carrying.specs.Coming.{coming_step, InRange}
 use Rattle.step_carrying.specs.declared.Coming.{Coming}
@@ -18,7 +17,6 @@ use Rattle.call_refusal.specs.declared.Judged.TheVariants.{Accept, Refuse}
 use Rattle.call_refusal.proofs.Going.{Entered, entered}
 use Rattle.call_receive.specs.Receives.{receive_tests, receive_step, receive_plan, receive_turn}
 use Rattle.call_receive.specs.declared.Arrives.{Arrives}
-use Rattle.call_receive.specs.declared.Arrives.TheVariants as Arrives
 use Rattle.call_receive.proofs.Turns.{Sound, turn_sound, nobody_is, turns_is}
 
 module _ (t : List ℕ) (store output time peer : ℕ) (s : List ℕ) (j : Judged) (e : j ≡ lowest (receive_tests t store output time peer (length s))) where

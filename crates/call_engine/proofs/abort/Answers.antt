@@ -1,0 +1,9 @@
+-- `call_engine::abort` meets its contract: its plan is sound, and is carried out. Assumes nothing.
+use mathlib.Core.Path.{refl}
+use Rattle.call_plans.specs.Calls.{Call}
+use Rattle.law_plans_sound.proofs.CallSound.{call_sound}
+use Rattle.call_engine.proofs.Carrying.{sound_ready}
+use Rattle.call_engine.proofs.abort.Goals as goal
+
+pub primitive-requires-clause-plan_ready : goal.primitive-requires-clause-plan_ready
+primitive-requires-clause-plan_ready c = sound_ready _ _ (call_sound (Call.Abort _ _ _ _ _) _ (refl, refl))

@@ -1,0 +1,25 @@
+-- `call_engine::fire_named` meets its contract: judged, and the record at its place fired. Assumes nothing.
+use mathlib.Core.List.{[]}
+use mathlib.Core.Path.{sym, ◌∙◌}
+use Rattle.step_outcome.specs.Carry.{lent}
+use Rattle.call_engine.proofs.Carrying.{refused_so}
+use Rattle.call_engine.proofs.NamedFiring.{known, ready, so, refuses}
+use Rattle.call_engine.proofs.fire_named.Goals as goal
+
+pub fire-requires-clause-ready : goal.fire-requires-clause-ready
+fire-requires-clause-ready c =
+    ready c.args.table.now c.args.store.now c.args.output.now c.args.time c.args.role c.args.peer c.args.tid _ (sym c.in-At.is ∙ c.fire_place.ensures)
+
+pub fire-requires-clause-record_size_in_bounds : goal.fire-requires-clause-record_size_in_bounds
+fire-requires-clause-record_size_in_bounds c =
+    let k = known c.args.table.now c.args.store.now c.args.output.now c.args.time c.args.role c.args.peer c.args.tid _ (sym c.in-At.is ∙ c.fire_place.ensures) in
+    (k.0.there, k.0.small, k.0.tid, k.1)
+
+pub returns-in-Refuse : goal.returns-in-Refuse
+returns-in-Refuse c =
+    let l = lent c.args.table.now c.args.store.now c.args.output.now [] [] in
+    refused_so l _ _ _ _ c.number.ensures (refuses c.args.table.now c.args.store.now c.args.output.now c.args.time c.args.role c.args.peer c.args.tid _ (sym c.in-Refuse.is ∙ c.fire_place.ensures))
+
+pub returns-in-At : goal.returns-in-At
+returns-in-At c =
+    so c.args.table.now c.args.store.now c.args.output.now c.args.time c.args.role c.args.peer c.args.tid _ (sym c.in-At.is ∙ c.fire_place.ensures) _ _ c.fire.ensures
