@@ -14,7 +14,7 @@ use Rattle.rds_entries.specs.Entries.{no_entry}
 use Rattle.rds_words.specs.Words.{entry_words, list_words}
 use Rattle.rds_said.specs.Said.{word, format_said, entry_said, list_said}
 use Rattle.rds_written.specs.Trips.{unplaced_entry}
-use Rattle.rds_again.proofs.Lists.{word_at}
+use Rattle.rds_again.proofs.Stored.{word_at}
 
 -- entries that are the same starts aside, and in their starts, are the same
 pub same_entry : (x y : Entry) → unplaced_entry x ≡ unplaced_entry y → x.start ≡ y.start → x ≡ y
@@ -45,10 +45,10 @@ module _ (g h : List Entry) (alike : map unplaced_entry g ≡ map unplaced_entry
 
     -- the word j of the entry k, both ways
     word_there : (k j : ℕ) → k < 15 → j < 5 → word there (24 + 5 * k + j) ≡ get_or (entry_words (get_or g k no_entry)) j 0
-    word_there k j l m = word_at front g f24 full_there f n k j l m
+    word_there k j l m = word_at front g f24 full_there k j l m
 
     word_same : (k j : ℕ) → k < 15 → j < 5 → get_or (entry_words (get_or g k no_entry)) j 0 ≡ get_or (entry_words (get_or h k no_entry)) j 0 → word there (24 + 5 * k + j) ≡ word here (24 + 5 * k + j)
-    word_same k j l m e = word_there k j l m ∙ e ∙ sym (word_at before h b24 full f n k j l m)
+    word_same k j l m e = word_there k j l m ∙ e ∙ sym (word_at before h b24 full k j l m)
 
     said_there : (k : ℕ) → k < 15 → (b : Bool)
         → pick b (record { source = word here (24 + 5 * k) % 16; destination = word here (24 + 5 * k + 1) % 16; start = word here (24 + 5 * k + 2); len = word here (24 + 5 * k + 3); format = format_said (word here (24 + 5 * k + 4)) f }) no_entry ≡ get_or h k no_entry

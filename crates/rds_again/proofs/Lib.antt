@@ -1,5 +1,6 @@
 pub mod Plain
 pub mod Walked
+pub mod Stored
 pub mod Lists
 pub mod Accepted
 pub mod Moved

@@ -1,12 +1,12 @@
 -- A list, as it was read: its words say it, and it is no longer than an information field. Assumes nothing.
-use Prim.Native.Nat.{ℕ, zero, suc, ◌+◌, ◌-◌, ◌*◌, ◌/◌, ◌%◌, ◌<◌, ◌≤◌}
+use Prim.Native.Nat.{ℕ, ◌+◌, ◌-◌, ◌*◌, ◌/◌, ◌%◌, ◌<◌, ◌≤◌}
 use native.Mathlib.Omega.{arith}
 use mathlib.Core.Path.{◌≡◌, refl, sym, ap, ◌∙◌}
-use mathlib.Core.List.{List, [], ◌∷◌, ◌++◌}
+use mathlib.Core.List.{List, ◌++◌}
 use mathlib.Core.Bool.{Bool, true, false}
 use mathlib.Core.Logic.{◌⊎◌, inl, inr}
-use lib.ListN.{length, get_or, drop, replicate, length-drop, length-replicate, get_or-replicate, get_or-append}
-use lib.Seq.{drop-drop, get_or-drop, get_or-append-add, ext_get_or}
+use lib.ListN.{length, get_or, drop, replicate, length-drop, length-replicate, get_or-replicate}
+use lib.Seq.{drop-drop, get_or-drop, ext_get_or}
 use lib.Dec.{ltb, eqb}
 use borrow.Author.Tests.{eqb-true, lt-ltb, le-ltb}
 use Rattle.base_lists.specs.Seq.{pick, tab}
@@ -21,26 +21,14 @@ use Rattle.rds_body.specs.declared.Form.TheVariants as F
 use Rattle.rds_body.specs.declared.Optional.TheVariants.{Missing, There, Wrong}
 use Rattle.rds_body.specs.Body.{form_of, bitmap_of, optional_of, no_list, list_by, list_of}
 use Rattle.rds_reading.specs.Read.{sound_body}
-use Rattle.rds_words.specs.Words.{kind_words, body_words, entry_words, entries_words, list_words}
+use Rattle.rds_words.specs.Words.{kind_words, body_words, entry_words, list_words}
 use Rattle.rds_size.specs.Size.{entry_size, entries_size, list_size, body_size}
 use Rattle.rds_said.specs.Said.{word, format_said, manage_said, u_said, body_said, entry_said, list_said, entries_said}
 use Rattle.rds_writing.specs.Write.{is_items}
 use Rattle.rds_written.proofs.Headers.{bit_said}
 use Rattle.rds_again.proofs.Plain.{Kept, ports_again}
+use Rattle.rds_again.proofs.Stored.{word_at}
 use Rattle.rds_again.proofs.Walked.{Good, Found, walk_found}
-
--- the word j of the entry k
-entry_stored : (l : List Entry) (k j : ℕ) (rest : List ℕ) → k < length l → j < 5 → get_or (entries_words l ++ rest) (5 * k + j) 0 ≡ get_or (entry_words (get_or l k no_entry)) j 0
-unfolding entries_words entry_words
-entry_stored [] k j rest h g = absurd (omega (arith, h))
-entry_stored (e ∷ l) zero j rest h g =
-    let z : 5 * 0 + j ≡ j = omega arith in
-    ap (λ (i : ℕ). get_or (entry_words e ++ (entries_words l ++ rest)) i 0) z ∙ get_or-append (entry_words e) (entries_words l ++ rest) 0 j g
-entry_stored (e ∷ l) (suc k) j rest h g =
-    let z : 5 * suc k + j ≡ 5 + (5 * k + j) = omega arith in
-    ap (λ (i : ℕ). get_or (entry_words e ++ (entries_words l ++ rest)) i 0) z
-    ∙ get_or-append-add (entry_words e) (entries_words l ++ rest) (5 * k + j) 0
-    ∙ entry_stored l k j rest (omega (arith, h)) g
 
 format_again : (x : ℕ) (g : Bool) → x < 8 → (g ≡ false → x ≡ 0) → format_said x g ≡ x
 unfolding format_said
@@ -51,23 +39,17 @@ module _ (front : List ℕ) (l : List Entry) (f24 : length front ≡ 24) (full :
   abbrev W : List ℕ
   W = front ++ list_words l
 
-  pub word_at : (k j : ℕ) → k < 15 → j < 5 → word W (24 + 5 * k + j) ≡ get_or (entry_words (get_or l k no_entry)) j 0
-  unfolding list_words
-  word_at k j h g =
-      let z : 24 + 5 * k + j ≡ length front + (5 * k + j) = omega (arith, f24) in
-      ap (λ (i : ℕ). get_or W i 0) z ∙ get_or-append-add front (entries_words l ++ (0 ∷ [])) (5 * k + j) 0 ∙ entry_stored l k j (0 ∷ []) (omega (arith, full, h)) g
-
   -- an entry that can be written is what its words say
   entry_said_holds : (k : ℕ) → k < 15 → k < n → (s : List ℕ) → Good s f (get_or l k no_entry) → entry_said W f n k ≡ get_or l k no_entry
   unfolding entry_said entry_words
   entry_said_holds k h below s good =
       let e : Entry = get_or l k no_entry in
       let z : 24 + 5 * k ≡ 24 + 5 * k + 0 = omega arith in
-      let a : word W (24 + 5 * k) % 16 ≡ e.source = ap (λ (x : ℕ). x % 16) (ap (word W) z ∙ word_at k 0 h (omega arith)) ∙ omega (arith, good.source_narrow) in
-      let b : word W (24 + 5 * k + 1) % 16 ≡ e.destination = ap (λ (x : ℕ). x % 16) (word_at k 1 h (omega arith)) ∙ omega (arith, good.destination_narrow) in
-      let c : word W (24 + 5 * k + 2) ≡ e.start = word_at k 2 h (omega arith) in
-      let d : word W (24 + 5 * k + 3) ≡ e.len = word_at k 3 h (omega arith) in
-      let m : format_said (word W (24 + 5 * k + 4)) f ≡ e.format = ap (λ (x : ℕ). format_said x f) (word_at k 4 h (omega arith)) ∙ format_again e.format f good.format_narrow good.no_format in
+      let a : word W (24 + 5 * k) % 16 ≡ e.source = ap (λ (x : ℕ). x % 16) (ap (word W) z ∙ word_at front l f24 full k 0 h (omega arith)) ∙ omega (arith, good.source_narrow) in
+      let b : word W (24 + 5 * k + 1) % 16 ≡ e.destination = ap (λ (x : ℕ). x % 16) (word_at front l f24 full k 1 h (omega arith)) ∙ omega (arith, good.destination_narrow) in
+      let c : word W (24 + 5 * k + 2) ≡ e.start = word_at front l f24 full k 2 h (omega arith) in
+      let d : word W (24 + 5 * k + 3) ≡ e.len = word_at front l f24 full k 3 h (omega arith) in
+      let m : format_said (word W (24 + 5 * k + 4)) f ≡ e.format = ap (λ (x : ℕ). format_said x f) (word_at front l f24 full k 4 h (omega arith)) ∙ format_again e.format f good.format_narrow good.no_format in
       rw (lt-ltb k n below) (λ i. record { source = a i; destination = b i; start = c i; len = d i; format = m i })
 
   none_said : (k : ℕ) → n ≤ k → entry_said W f n k ≡ no_entry

@@ -21,14 +21,15 @@ use Rattle.rds_body.specs.declared.Form.TheVariants as F
 use Rattle.rds_body.specs.declared.Managed.{Managed}
 use Rattle.rds_body.specs.Body.{form_of, no_list, managed_of}
 use Rattle.rds_reading.specs.Read.{empty_of, items_of, manage_of, u_body, body_by, sound_body}
-use Rattle.rds_size.specs.Size.{inside, is_application, information_size, asking_size, entries_size, list_size, body_size}
-use Rattle.rds_size.proofs.SizeTests.{Application, application}
+use Rattle.rds_size.specs.Size.{inside, information_size, entries_size, list_size, body_size}
+use Rattle.rds_size.proofs.SizeTests.{Application}
 use Rattle.rds_size.proofs.Fits.{information_fits}
 use Rattle.rds_pieces.specs.Octets.{fixed_of, asking_pieces, answer_pieces, query_pieces, list_pieces, pieces_of}
 use Rattle.rds_encoding.specs.Encoding.{entries_octets, pieces_octets}
 use Rattle.rds_said.specs.Said.{word, set?, format_said, ports_said, asking_said, form_said, manage_said, u_said, body_said, entry_said, list_said, entries_said}
 use Rattle.rds_writing.specs.Write.{is_items}
 use Rattle.rds_written.specs.Trips.{unplaced_body, unplaced_entry, body_part, entry_part}
+use Rattle.rds_written.proofs.Held.{asking_held}
 use Rattle.rds_written.proofs.Lists.{told, told_alike, told_parts}
 use Rattle.rds_written.proofs.Forms.{asking_again, answer_again, query_again}
 use Rattle.rds_written.proofs.Listed.{format_narrow, no_format, all_narrow, list_again}
@@ -45,14 +46,6 @@ pub record Back (f : List ℕ) (m : Managed) (s : List ℕ) (b : Body) (l : List
 plain : (f s w : List ℕ) (c b : Body) → sound_body c ≡ true → unplaced_body c ≡ unplaced_body b → body_part f c ≡ body_part s b → Back f (no_list c) s b (list_said w false 0)
 unfolding no_list list_said entry_said tab
 plain f s w c b p q r = record { sound = p; alike = q; alike_list = refl; same_part = r; same_parts = refl }
-
--- a command Reserve or Release that is not too long has an Application ID
-asking_held : (s : List ℕ) (a start len : ℕ) → asking_size s a start len ≤ 1520 → Application s start len
-unfolding asking_size
-asking_held s a start len = go (is_application s start len) refl where
-  go : (b : Bool) → is_application s start len ≡ b → pick b (pick (eqb a 5) (2 + len + 1) (2 + len)) 1521 ≤ 1520 → Application s start len
-  go true p h = application s start len p
-  go false p h = absurd (omega (arith, h))
 
 -- the information of SET_PARAMETERS that is not too long is items
 items_held : (s : List ℕ) (start len : ℕ) → information_size s start len true ≤ 1520 → items_from len (part s start len) ≡ true

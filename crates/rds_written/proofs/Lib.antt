@@ -5,5 +5,6 @@ pub mod Walk
 pub mod Lists
 pub mod Forms
 pub mod Listed
+pub mod Held
 pub mod Bodies
 pub mod Written
