@@ -75,7 +75,7 @@ fn put_head(out: &mut [u8], ports: bool, source: u64, destination: u64, number: 
 }
 
 // Puts a datagram into a UI frame at the start of the output.
-#[tactic(auto, using(crate::proofs::Room::roomy, crate::proofs::Room::head_length, crate::proofs::Room::two_stores), unfolding(crate::specs::Put::put_of, crate::specs::Put::put_by))]
+#[tactic(auto, using(base_lists::proofs::StoresAndParts::length_put, crate::proofs::Room::roomy, crate::proofs::Room::head_length, crate::proofs::Room::two_stores), unfolding(crate::specs::Put::put_of, crate::specs::Put::put_by))]
 pub fn put(
     datagram: &[u8],
     ports: bool,

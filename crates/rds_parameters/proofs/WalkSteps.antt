@@ -17,3 +17,8 @@ pub items_more : (k : ℕ) (s : List ℕ) → (k ≡ 0 → ⊥) → items_from k
 unfolding items_from
 items_more zero s h = absurd (h refl)
 items_more (suc k) s h = rw sub-one
+
+pub items_empty : (k : ℕ) (s : List ℕ) → eqb (length s) 0 ≡ true → items_from k s ≡ true
+unfolding items_from
+items_empty zero s e = rw e
+items_empty (suc k) s e = rw e

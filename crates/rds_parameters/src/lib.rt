@@ -25,7 +25,7 @@ fn item_length(s: &[u8]) -> usize
 }
 
 // Whether s is items to its end, of which at most `left` are still to come.
-#[tactic(auto, using(rds_lists::proofs::ListFacts::rest, crate::proofs::WalkSteps::items_none, crate::proofs::WalkSteps::items_more))]
+#[tactic(auto, using(rds_lists::proofs::ListFacts::rest, crate::proofs::WalkSteps::items_none, crate::proofs::WalkSteps::items_more, crate::proofs::WalkSteps::items_empty))]
 pub fn all_items(s: &[u8], left: usize) -> bool
     ensures { result ≡ items_from left s.now }
 {

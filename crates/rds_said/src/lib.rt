@@ -24,7 +24,7 @@ fn three_bits(x: u64) -> u8
 }
 
 // The kind that words 0 to 10 say.
-#[tactic(auto, unfolding(crate::specs::Said::kind_said))]
+#[tactic(auto, using(crate::proofs::ByKind::said_i, crate::proofs::ByKind::said_s, crate::proofs::ByKind::said_ui, crate::proofs::ByKind::said_u), unfolding(crate::specs::Said::kind_said))]
 fn kind_said(words: &[u64]) -> Kind
     requires { 100 ≤ length words.now }
     ensures { result ≡ kind_said words.now }
