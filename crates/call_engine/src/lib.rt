@@ -54,6 +54,7 @@ pub fn request(
 }
 
 // A primitive that names a record, with its data and exit information.
+#[inline(always)]
 fn primitive(
     table: &mut [u8],
     store: &mut [u8],

@@ -22,6 +22,7 @@ pub fn wtp_table_bytes(records: u64) -> u64
 }
 
 // Makes a table fresh.
+#[inline(never)]
 pub fn wtp_fresh(table: &mut [u8], settings: &[u64], first_tid: u64) -> u64
     ensures { (result ≡ fresh_number (fresh_answer (length table.old) settings.now first_tid)) × (table.new ≡ table_after_fresh (fresh_answer (length table.old) settings.now first_tid) table.old settings.now first_tid) }
 {
@@ -43,6 +44,7 @@ pub fn wtp_write(fields: &[u64], bytes: &[u8], out: &mut [u8], answer: &mut [u64
 }
 
 // Separates a datagram: start and length of its k-th PDU, and how many there are.
+#[inline(never)]
 pub fn wtp_separate(datagram: &[u8], k: u64, part: &mut [u64]) -> u64
     ensures { (result ≡ separate_number datagram.now k part.old) × (part.new ≡ part_after datagram.now k part.old) }
 {

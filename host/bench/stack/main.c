@@ -4,16 +4,16 @@
 
 #include "rows.h"
 
-/* What a call may take: request L5 of document 02, which salvage keeps too, and what those below it took then. The calls of rds.h have no bound. */
+/* What a call may take: request L5 of document 02, which salvage keeps too, and what those below it take (DECISIONS 93, 167). The calls of rds.h have no bound. */
 static const struct {
     const char *name;
     size_t bound;
 } calls[] = {
     { "wtp_table_bytes", 8 }, { "wtp_fresh", 40 }, { "wtp_read", 1024 }, { "wtp_write", 1024 }, { "wtp_separate", 40 },
-    { "wtp_join", 64 }, { "wtp_request", 1024 }, { "wtp_answer", 1024 }, { "wtp_result", 1024 }, { "wtp_abort", 1024 },
+    { "wtp_join", 96 }, { "wtp_request", 1024 }, { "wtp_answer", 1024 }, { "wtp_result", 1024 }, { "wtp_abort", 1024 },
     { "wtp_receive", 1024 }, { "wtp_timer", 1024 }, { "wtp_fire", 1024 }, { "wtp_deadline", 272 },
     { "wtp_salvage", 1024 },
-    { "wtp_read_part", 1024 }, { "wtp_data", 8 },
+    { "wtp_read_part", 1024 }, { "wtp_data", 56 },
 };
 
 #define CALLS (sizeof calls / sizeof calls[0])
