@@ -10,6 +10,7 @@ fails, not where a proof no longer fits the code's shape, names what is gone or 
 What was found stands in crates/NAME/must-fail/REFUSED.md beside the sum of the texts that were read, the crate's and the edit's: an
 edit is tried again once they change.
 usage: scripts/refusals.py [--jobs N] [CRATE..]   (without a name: every crate; N crates are tried at a time)
+       scripts/refusals.py --recorded             (tries none: judges what is recorded of texts that stand, and counts the other edits)
 """
 import concurrent.futures
 import hashlib
@@ -155,12 +156,28 @@ def written(refused):
     return "; ".join(f"{it} by {', '.join(sorted(goals))}" if goals else it for it, goals in sorted(refused.items()))
 
 
-def refusals_of(crate, edits):
-    """What refuses each edit of a crate: as it was found before, while the texts stay, and else as a try of it finds."""
+def recorded(crate, edits):
+    """What was found of a crate's edits before, by name and sum, and the sums of their texts as they stand."""
     record = crate / "must-fail/REFUSED.md"
     said = re.findall(r"^- (\S+) ([0-9a-f]{16}): (.*)$", record.read_text(), re.M) if record.exists() else []
-    known = {(name, sum): refused for name, sum, refused in said}
-    sums = {name: sum_of(crate, edit) for name, edit in edits.items()}
+    return {(name, sum): refused for name, sum, refused in said}, {name: sum_of(crate, edit) for name, edit in edits.items()}
+
+
+def proofs_in(refused):
+    """The functions and lemmas of a line of the record."""
+    return {it.partition(" by ")[0] for it in refused.split("; ") if it}
+
+
+def standing(crate, edits):
+    """What is recorded of the edits whose texts stand."""
+    known, sums = recorded(crate, edits)
+    return {name: proofs_in(known[name, sum]) for name, sum in sums.items() if (name, sum) in known}
+
+
+def refusals_of(crate, edits):
+    """What refuses each edit of a crate: as it was found before, while the texts stay, and else as a try of it finds."""
+    known, sums = recorded(crate, edits)
+    said = len(known)
     new = [name for name, sum in sums.items() if (name, sum) not in known]
     with tempfile.TemporaryDirectory(prefix="refusals-") as room:
         copy = Copy(crate, room) if new else None
@@ -169,28 +186,32 @@ def refusals_of(crate, edits):
         for name in new:
             print(f"refusals: {crate.name}: trying {name}", flush=True)
             known[name, sums[name]] = written(found(copy, name, edits[name]))
-    if new or len(said) != len(sums):
-        record.write_text(HEAD + "".join(f"- {name} {sum}: {known[name, sum]}\n" for name, sum in sums.items()))
-    return {name: {it.partition(" by ")[0] for it in known[name, sum].split("; ") if it} for name, sum in sums.items()}
+    if new or said != len(sums):
+        (crate / "must-fail/REFUSED.md").write_text(HEAD + "".join(f"- {name} {sum}: {known[name, sum]}\n" for name, sum in sums.items()))
+    return {name: proofs_in(known[name, sum]) for name, sum in sums.items()}
 
 
 def main(words):
     jobs = int(words[1]) if words[:1] == ["--jobs"] else 1
-    names = words[2:] if words[:1] == ["--jobs"] else words
+    tries = words[:1] != ["--recorded"]
+    names = words[2:] if words[:1] == ["--jobs"] else words if tries else []
     edits = {}
     for crate in sorted(pathlib.Path("crates").iterdir()):
         files = sorted((crate / "must-fail").glob("*.edit"))
         if files and (crate.name in names or not names):
             edits[crate] = {file.stem: file.read_text() for file in files}
-    programs, checks, bad = 0, 0, 0
+    programs, checks, bad, left = 0, 0, 0, 0
     with concurrent.futures.ThreadPoolExecutor(jobs) as pool:
-        for crate, refusals in zip(edits, pool.map(refusals_of, edits, edits.values())):
+        for crate, refusals in zip(edits, pool.map(refusals_of if tries else standing, edits, edits.values())):
+            left += len(edits[crate]) - len(refusals)
             for name, edit in edits[crate].items():
+                if name not in refusals:
+                    continue
                 count, wrong = judge(edit, refusals[name])
                 programs, checks, bad = programs + count, checks + 1, bad + len(wrong)
                 for it in wrong:
                     print(f"refusals: {crate.name}/{name}: {it}")
-    print(f"{programs} wrong programs in {checks} checks, {bad} not refused for themselves")
+    print(f"{programs} wrong programs in {checks} checks, {bad} not refused for themselves" + (f"; {left} edits have no record" if left else ""))
     return 1 if bad else 0
 
 
