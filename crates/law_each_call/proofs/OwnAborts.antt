@@ -1,9 +1,9 @@
 -- An accepted abort call sends the user's Abort PDU, with its reason and its record's TID, and counts as the user's own abort. Assumes nothing.
-use Prim.Native.Nat.{ℕ, ◌/◌, ◌%◌, ◌≤◌}
+use Prim.Native.Nat.{ℕ, ◌≤◌}
 use native.Mathlib.Omega.{arith}
 use mathlib.Core.Path.{◌≡◌, refl, sym, ap, subst, ◌∙◌}
 use mathlib.Core.Bool.{true, false}
-use mathlib.Core.List.{List, [], ◌∷◌}
+use mathlib.Core.List.{List}
 use mathlib.Core.Logic.{inl, inr}
 use Rattle.base_layout.specs.Layout.{tid_bound}
 use Rattle.base_lists.proofs.StoresAndParts.{true_false}
@@ -46,10 +46,7 @@ use Rattle.law_one_turn.proofs.Counted.{entry_of, sent_is}
 use Rattle.step_sending.proofs.Octets.{tid_whole}
 use Rattle.law_one_turn.proofs.Lived.{lived_adds}
 use Rattle.law_data_shown.proofs.Effects.{done_is}
-
--- the octets of the user's Abort PDU
-abbrev abort_octets : ℕ → ℕ → List ℕ
-abort_octets tid reason = 0x21 ∷ tid / 256 ∷ tid % 256 ∷ reason ∷ []
+use Rattle.law_each_call.proofs.AbortOctets.{abort_octets}
 
 module _ (l : Lent) (time role peer tid reason : ℕ) (step : Step) (k : Lived (Call.Abort time role peer tid reason) l step)
     (a : Accepted (Call.Abort time role peer tid reason) l step) where
