@@ -12,6 +12,7 @@ use Rattle.step_shown.specs.Words.{front_words, own_words, source_number, shown_
 use Rattle.step_plan.specs.declared.Told.{Told}
 use Rattle.c_answers.specs.Answers.{head_words, record_words, answer_words}
 use Rattle.c_parts.specs.Parts.{source_said, place_said, words_from}
+use Rattle.law_exported.proofs.PastFirst.{past_first}
 
 -- a source's number names it
 source_back : (s : Source) → source_said (source_number s) ≡ s
@@ -36,19 +37,10 @@ module _ (sent : ℕ) (told : Told) (first second : Shown) where
   unfolding place_said head_words
   past_head rest = refl
 
-  -- and twelve of the first indication
-  past_first : (s : Shown) (rest : List ℕ) → place_said (head_words sent told first second ++ (shown_words s ++ rest)) (words_from 1) ≡ place_said rest 0
-  unfolding place_said head_words shown_words front_words own_words
-  past_first Shown.Nothing rest = refl
-  past_first (Shown.Invoke peer tid class up place) rest = refl
-  past_first (Shown.Confirm role peer tid place) rest = refl
-  past_first (Shown.Result peer tid place) rest = refl
-  past_first (Shown.Abort role peer tid type reason) rest = refl
-
   pub first_said : place_said (answer_words sent told first second) (words_from 0) ≡ place_of first
   unfolding answer_words
   first_said = past_head _ ∙ said_by_holds first (shown_words second ++ record_words told)
 
   pub second_said : place_said (answer_words sent told first second) (words_from 1) ≡ place_of second
   unfolding answer_words
-  second_said = past_first first (shown_words second ++ record_words told) ∙ said_by_holds second (record_words told)
+  second_said = past_first sent told first second first (shown_words second ++ record_words told) ∙ said_by_holds second (record_words told)

@@ -1,6 +1,7 @@
 pub mod Contracts
 pub mod OneOutcome
 pub mod Exported
+mod PastFirst
 pub mod DataSaid
 pub mod InTwo
 pub mod Waiting
