@@ -214,6 +214,7 @@ pub fn tid_in_use(t: &[u8], n: usize, tid: u64) -> bool
 }
 
 // Whether record i is due at this time.
+#[tactic(auto, unfolding(crate::specs::Finding::is_due))]
 pub fn is_due(t: &[u8], i: usize, time: u64) -> bool
     requires { header_size + i * record_size + record_size ≤ length t.now }
     ensures { result ≡ is_due time (record_at t.now i) }

@@ -31,6 +31,7 @@ pub enum Fresh {
 }
 
 // The bytes of a table for 1 to 48 records, else 0.
+#[tactic(auto, unfolding(crate::specs::Fresh::table_bytes))]
 pub fn table_bytes(records: u64) -> u64
     ensures { result ≡ table_bytes records }
 {
@@ -44,6 +45,7 @@ pub fn table_bytes(records: u64) -> u64
         0
     }
 }
+#[tactic(auto, unfolding(crate::specs::Fresh::right_size))]
 
 fn right_size(len: usize) -> bool
     ensures { result ≡ right_size len }
