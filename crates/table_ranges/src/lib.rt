@@ -28,6 +28,7 @@ pub fn maximum_ok(n: u8) -> bool
 }
 
 // A, W or one of R.
+#[tactic(auto, unfolding(crate::specs::Ranges::interval))]
 pub fn interval_ok(v: u32) -> bool
     ensures { result ≡ interval v }
 {
@@ -39,6 +40,7 @@ pub fn interval_ok(v: u32) -> bool
 }
 
 // The waiting limit goes with its mode.
+#[tactic(auto, unfolding(crate::specs::Ranges::modes_ok, crate::specs::Ranges::interval))]
 pub fn modes_ok(modes: u64, limit: u64) -> bool
     ensures { result ≡ modes_ok modes limit }
 {
@@ -57,6 +59,7 @@ pub fn modes_ok(modes: u64, limit: u64) -> bool
 }
 
 // The identity of an unknown item, or 0.
+#[tactic(auto, unfolding(crate::specs::Ranges::unknown_ok))]
 pub fn unknown_ok(k: u8) -> bool
     ensures { result ≡ unknown_ok k }
 {
@@ -85,6 +88,7 @@ pub fn zero_octets(t: &[u8], at: usize, n: usize) -> bool
 }
 
 // Whether n words of eight octets are zero, gathered without an early exit: it becomes a few wide loads.
+#[tactic(auto, using(crate::proofs::Zeros::zeros_more), unfolding(crate::specs::Ranges::zeros, base_lists::specs::Seq::every))]
 pub fn zero_words(t: &[u8], at: usize, n: usize) -> bool
     requires { at + n * 8 ≤ length t.now }
     ensures { result ≡ zeros t.now at (n * 8) }
