@@ -22,6 +22,7 @@ fn distance_of(tid: u16, last: u16) -> u16
 }
 
 // The test of a TID against what is cached for its peer: 0 is none, else LastTID and 1.
+#[tactic(auto, unfolding(crate::specs::Tids::test_of))]
 pub fn tid_test(cached: u16, tid: u16) -> Test
     ensures { result ≡ test_of cached tid }
 {
@@ -48,6 +49,7 @@ pub fn next_tid(tid: u16) -> u16
 }
 
 // Whether a request's Invoke carries TIDnew, where it is due or not.
+#[tactic(auto, unfolding(crate::specs::Tids::carries_tidnew))]
 pub fn carries_tidnew(class: u8, due: bool) -> bool
     ensures { result ≡ carries_tidnew class due }
 {
@@ -55,6 +57,7 @@ pub fn carries_tidnew(class: u8, due: bool) -> bool
 }
 
 // Whether TIDnew is due after a request that leaves this GenTID.
+#[tactic(auto, unfolding(crate::specs::Tids::due_after))]
 pub fn due_after(class: u8, due: bool, next: u16) -> bool
     ensures { result ≡ due_after class due next }
 {
