@@ -49,6 +49,7 @@ pub fn tid_of(s: &[u8]) -> RcvTid
 }
 
 // Whom the octets name, malformed or not.
+#[tactic(auto, unfolding(crate::specs::Arrivals::name_of))]
 pub fn named_by(s: &[u8]) -> Name
     ensures { result ≡ name_of s.now }
 {
