@@ -22,6 +22,7 @@ pub enum Placed {
 }
 
 // Number 2: the time is below the last accepted one or over the bound.
+#[tactic(auto, unfolding(crate::specs::Judging::late_of))]
 fn late(t: &[u8], time: u64) -> bool
     requires { header_size ≤ length t.now }
     ensures { result ≡ late_of t.now time }

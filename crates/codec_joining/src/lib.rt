@@ -77,6 +77,7 @@ fn joining_plan(bytes: &[u8], lengths: &[u64]) -> Joining
 }
 
 // Stores a length in out from `at` on, and gives the place after it.
+#[tactic(auto, unfolding(crate::specs::Join::length_octets, base_lists::specs::Seq::put))]
 fn put_length(out: &mut [u8], at: usize, n: usize) -> usize
     requires { (n ≤ datagram_bound) × (at + length (length_octets n) ≤ length out.old) }
     ensures { (result ≡ at + length (length_octets n)) × (out.new ≡ put out.old at (length_octets n)) }

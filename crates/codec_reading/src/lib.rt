@@ -143,6 +143,7 @@ fn long_head(s: &[u8]) -> Head
 }
 
 // The fixed header, malformed in the order D2, D1, D5, D6.
+#[tactic(auto, unfolding(crate::specs::Read::head_of))]
 fn head_of(s: &[u8]) -> Head
     requires { 1 ≤ length s.now }
     ensures { result ≡ head_of s.now }
@@ -240,6 +241,7 @@ fn whole(s: &[u8], head: Head, at: Places, end: usize) -> Brief
 }
 
 // The brief of a sound header and the items after it, which end at `end`.
+#[tactic(auto, unfolding(crate::specs::Brief::ended_brief))]
 fn ended(s: &[u8], head: Head, at: Places, end: usize) -> Brief
     requires { end ≤ length s.now }
     ensures { result ≡ ended_brief s.now head at end }

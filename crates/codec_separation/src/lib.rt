@@ -37,6 +37,7 @@ struct Seen {
 }
 
 // The part of len octets from start, unless there are fewer or it has none.
+#[tactic(auto, unfolding(crate::specs::Separate::part_of))]
 fn part_of(d: &[u8], start: usize, len: usize) -> Found
     requires { start ≤ length d.now }
     ensures { result ≡ part_of d.now start len }

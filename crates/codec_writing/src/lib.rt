@@ -22,6 +22,7 @@ pub enum Written {
 }
 
 // The kind of the PDU to be written, with its parts in `bytes` octets and room for `room`; or why it isn't.
+#[tactic(auto, unfolding(crate::specs::Writing::plan_of, codec_pdu::specs::Pdu::blank_pdu))]
 fn planned_kind(fields: &[u64], bytes: usize, room: usize) -> Kind
     ensures { result ≡ (plan_of fields.now bytes room).kind }
 {
