@@ -45,8 +45,8 @@ pub fn table_bytes(records: u64) -> u64
         0
     }
 }
-#[tactic(auto, unfolding(crate::specs::Fresh::right_size))]
 
+#[tactic(auto, unfolding(crate::specs::Fresh::right_size))]
 fn right_size(len: usize) -> bool
     ensures { result ≡ right_size len }
 {
