@@ -95,7 +95,7 @@ module _ {bytes lengths : List ℕ} {left room i : ℕ} (v : Planned bytes lengt
     unfolding each_in_range
     all_in_range = v.rest.each ∙ ap each_in_range (drop_of_length-le lengths h)
 
-    pub planned_all : (length lengths ≡ 0 → ⊥) → left ≡ 0 → Length (1500 - room) ≡ planned_answer bytes lengths
+    planned_all : (length lengths ≡ 0 → ⊥) → left ≡ 0 → Length (1500 - room) ≡ planned_answer bytes lengths
     unfolding planned_answer
     planned_all s e =
         let j = facts_joinable bytes lengths (record { some = omega arith; each = all_in_range; adds = omega (arith, all_used, v.lent); short = omega (arith, all_taken, v.free) }) in
@@ -103,5 +103,14 @@ module _ {bytes lengths : List ℕ} {left room i : ℕ} (v : Planned bytes lengt
         let same : 1500 - room ≡ suc (size lengths) = omega (arith, all_taken, v.free) in
         rw (j, l, same)
 
-    pub planned_left : (left ≡ 0 → ⊥) → Refused WrongLength ≡ planned_answer bytes lengths
+    planned_left : (left ≡ 0 → ⊥) → Refused WrongLength ≡ planned_answer bytes lengths
     planned_left s = refused_answer bytes lengths λ t. omega (arith, (joinable_facts bytes lengths t).adds, all_used, v.lent)
+
+-- `Planned`, and what is answered once every PDU was met: facts of the loop, so that no proof names the test that ends it
+pub record Planning (bytes lengths : List ℕ) (left room i : ℕ) : Type 0 where
+  pub planned : Planned bytes lengths left room i
+  pub whole : length lengths ≤ i → (length lengths ≡ 0 → ⊥) → left ≡ 0 → Length (1500 - room) ≡ planned_answer bytes lengths
+  pub part : length lengths ≤ i → (left ≡ 0 → ⊥) → Refused WrongLength ≡ planned_answer bytes lengths
+
+pub planning : {bytes lengths : List ℕ} → {left room i : ℕ} → Planned bytes lengths left room i → Planning bytes lengths left room i
+planning v = record { planned = v; whole = planned_all v; part = planned_left v }

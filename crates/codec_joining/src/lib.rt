@@ -120,6 +120,7 @@ fn write(bytes: &[u8], lengths: &[u64], out: &mut [u8])
 }
 
 // The PDUs that bytes holds, of these lengths, as one datagram at the start of out.
+#[tactic(auto, using(crate::proofs::Answers::too_small, crate::proofs::Answers::large_enough, crate::proofs::Answers::accepted), unfolding(crate::specs::Join::output_after))]
 pub fn join(bytes: &[u8], lengths: &[u64], out: &mut [u8]) -> Joining
     ensures { (result ≡ joined_answer bytes.now lengths.now out.old) × (out.new ≡ output_after bytes.now lengths.now out.old) }
 {
