@@ -15,6 +15,7 @@ pub enum Putting {
 }
 
 // Whether the number and the ports fit their places; without a ports octet both ports are 0.
+#[tactic(auto, unfolding(crate::specs::Put::fit_of))]
 fn fit(ports: bool, source: u64, destination: u64, number: u64) -> bool
     ensures { result ≡ fit_of ports source destination number }
 {
@@ -34,6 +35,7 @@ fn fit(ports: bool, source: u64, destination: u64, number: u64) -> bool
 }
 
 // The length of the frame of a datagram of len octets, with room for `room`; or why there is none.
+#[tactic(auto, unfolding(crate::specs::Put::plan_of))]
 fn putting_plan(len: usize, room: usize, ports: bool, fits: bool) -> Putting
     ensures { result ≡ plan_of len room ports fits }
 {

@@ -54,6 +54,7 @@ fn is_answer(m: u8) -> bool
 }
 
 // Whether the bit C/R says response: a command has 0 from the UE and 1 from the network.
+#[tactic(auto, unfolding(crate::specs::Frame::responds))]
 pub fn says_response(cr: bool, from_network: bool) -> bool
     ensures { result ≡ responds cr from_network }
 {

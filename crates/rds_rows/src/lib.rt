@@ -35,6 +35,7 @@ fn shared(o: u8, s: u8) -> bool
 }
 
 // The lowest format that is both offered and supported, 0 where there is none.
+#[tactic(auto, unfolding(crate::specs::Rows::best))]
 pub fn best(o: u8, s: u8) -> u8
     ensures { result ≡ best o s }
 {
@@ -51,6 +52,7 @@ pub fn best(o: u8, s: u8) -> u8
 }
 
 // The row of a Reserve command.
+#[tactic(auto, unfolding(crate::specs::Rows::reserve_row))]
 pub fn reserve_row(again: bool, mine: bool, taken: bool, none: bool) -> Row
     ensures { result ≡ reserve_row again mine taken none }
 {
@@ -86,6 +88,7 @@ pub fn release_row(mine: bool, held: bool) -> Row
 }
 
 // The row of a response to our outstanding command.
+#[tactic(auto, unfolding(crate::specs::Rows::answer_row))]
 pub fn answer_row(release: bool, status: u8) -> Row
     ensures { result ≡ answer_row release status }
 {
