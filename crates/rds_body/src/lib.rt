@@ -173,6 +173,7 @@ fn asking_in(t: &[u8], at: usize, action: u8) -> Body
 }
 
 // The response Reserve or Release in t.
+#[tactic(auto, unfolding(crate::specs::Body::answer_of))]
 fn answer_in(t: &[u8], action: u8) -> Body
     ensures { result ≡ answer_of t.now action }
 {

@@ -37,6 +37,7 @@ fn is_application(bytes: &[u8], start: usize, len: usize) -> bool
 }
 
 // The size of information; with `items` it is that of SET_PARAMETERS.
+#[tactic(auto, using(crate::proofs::SizeTests::inside_ends), unfolding(crate::specs::Size::information_size))]
 fn information_size(bytes: &[u8], start: usize, len: usize, items: bool) -> usize
     ensures { (result ≡ information_size bytes.now start len items) × (result ≤ 1521) }
 {
