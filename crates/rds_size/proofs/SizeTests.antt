@@ -36,3 +36,7 @@ application s start len = go (eqb len 0) refl (ltb 272 len) refl (inside (length
   go false p true q c r e = true_false (sym e)
   go false p false q false r e = true_false (sym e)
   go false p false q true r e = record { some = eqb-false len 0 p; bounded = ltb-false 272 len q; ends = inside_ends (length s) start len r; whole = eqb-true _ len e }
+
+-- the same, of its length alone, as the check finds it
+pub application_short : (s : List ℕ) (start len : ℕ) → is_application s start len ≡ true → len ≤ 272
+application_short s start len e = (application s start len e).bounded

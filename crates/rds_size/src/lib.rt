@@ -70,6 +70,7 @@ fn asking_size(bytes: &[u8], action: u8, start: usize, len: usize) -> usize
 }
 
 // The size of an entry of a list.
+#[tactic(auto, using(crate::proofs::SizeTests::application_short), unfolding(crate::specs::Size::entry_size))]
 fn entry_size(bytes: &[u8], e: Entry, formats: bool) -> usize
     ensures { (result ≡ entry_size bytes.now formats e) × (result ≤ 1521) }
 {
