@@ -77,6 +77,7 @@ fn commit(book: &mut [u8], app: &[u8], t: Turn)
 }
 
 // Sends what the row says; the length.
+#[tactic(auto, using(base_lists::proofs::StoresAndParts::put_nil), unfolding(crate::specs::Receiving::reply_of))]
 fn reply(book: &[u8], out: &mut [u8], t: Turn, head: Head) -> usize
     requires { (length book.now ≡ book_size) × (277 ≤ length out.old) }
     ensures { (result ≡ length (reply_of book.now t head)) × (out.new ≡ put out.old 0 (reply_of book.now t head)) }

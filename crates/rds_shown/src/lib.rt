@@ -32,6 +32,7 @@ fn put_fresh(book: &mut [u8], network: bool, formats: u8)
     base_lists::store(book, 0, &two);
 }
 
+#[tactic(auto, unfolding(crate::specs::Shown::fresh_number, crate::specs::Shown::fresh_after))]
 pub fn fresh(book: &mut [u8], network: bool, formats: u64) -> u64
     ensures { (result ≡ fresh_number book.old formats) × (book.new ≡ fresh_after book.old network formats) }
 {
