@@ -11,6 +11,7 @@ use step_commit::{Change, Changes, GenTidChange, TidChange};
 use table_record::Record;
 
 // What becomes of the record: where it isn't live afterwards, what the caller says.
+#[tactic(auto, unfolding(crate::specs::Changes::change_of))]
 pub fn change_of(after: Record, ended: Change) -> Change
     ensures { result ≡ change_of after ended }
 {

@@ -143,6 +143,7 @@ fn place_in(source: step_shown::Source, part: Part) -> Place
     }
 }
 
+#[tactic(auto, unfolding(crate::specs::Steps::context_of))]
 pub fn context_of(h: Holder, c: Call) -> Context
     requires { h.place < records_bound }
     ensures { result ≡ context_of h c }
