@@ -49,6 +49,7 @@ pub fn entry(t: &[u8], store: usize, output: usize, time: u64) -> Judged
 }
 
 // The lowest of the numbers 1 to 3 that applies, of a call that names a peer.
+#[tactic(auto, unfolding(crate::specs::Judging::lowest))]
 pub fn peer_entry(t: &[u8], store: usize, output: usize, time: u64, peer: u64) -> Judged
     ensures { result ≡ lowest (peer_tests t.now store output time peer) }
 {
