@@ -27,6 +27,7 @@ pub struct Request {
 }
 
 // The lowest of the numbers 4 to 6 that applies, in a well-formed table.
+#[tactic(auto, unfolding(call_refusal::specs::Judging::lowest))]
 fn own_refusal(t: &[u8], q: Request) -> Judged
     requires { WellFormed t.now }
     ensures { result ≡ lowest (own_tests t.now q) }
@@ -56,6 +57,7 @@ fn request_refusal(t: &[u8], store: usize, output: usize, q: Request) -> Judged
 }
 
 // Number 7: a record is wanted and none is free.
+#[tactic(auto, unfolding(crate::specs::Requests::none_free))]
 fn none_free(free: Found, class: u64) -> bool
     ensures { result ≡ none_free free class }
 {
@@ -67,6 +69,7 @@ fn none_free(free: Found, class: u64) -> bool
 }
 
 // With the lowest free record found: number 7, or its place.
+#[tactic(auto, unfolding(crate::specs::Requests::free_place, call_refusal::specs::Judging::lowest))]
 fn with_place(free: Found, q: Request) -> Placed
     ensures { result ≡ free_place free q }
 {
@@ -88,6 +91,7 @@ pub fn request_place(t: &[u8], store: usize, output: usize, q: Request) -> Place
 }
 
 // The opening of an accepted request at this place: an initiator's, under GenTID, which is counted.
+#[tactic(auto, unfolding(crate::specs::Requests::request_opens, crate::specs::Requests::requester, crate::specs::Requests::counted_by))]
 pub fn request_opens(t: &[u8], place: usize, q: Request) -> Coming
     requires { header_size ≤ length t.now }
     ensures { result ≡ request_opens t.now place q }
