@@ -1,14 +1,12 @@
 -- What each call gives, by the case that it is in. Assumes nothing.
-use Prim.Native.Nat.{ℕ, ◌≤◌, ◌<◌}
-use borrow.Author.Tests.{lt-ltb, le-ltb}
+use Prim.Native.Nat.{ℕ, ◌≤◌}
+use borrow.Author.Tests.{le-ltb}
 use mathlib.Core.Path.{◌≡◌, refl, sym, ap}
 use mathlib.Core.List.{List}
 use mathlib.Core.Bool.{true, false}
 use lib.ListN.{length}
 use Rattle.base_lists.specs.Seq.{put}
 use Rattle.base_lists.proofs.StoresAndParts.{true_false}
-use Rattle.base_numbers.specs.Numbers.{number_of}
-use Rattle.base_numbers.specs.declared.Refusal.TheVariants.{WrongSize}
 use Rattle.codec_pdu.specs.Pdu.{sound_of}
 use Rattle.codec_pdu.specs.declared.Kind.{Kind}
 use Rattle.codec_pdu.specs.declared.Kind.TheVariants.{Invoke, Result, Ack, Abort, SegInvoke, SegResult, Nack, Wrong, Refused}
@@ -38,10 +36,6 @@ sound_accepted (Wrong d) e = true_false (sym e)
 sound_accepted (Refused r) e = true_false (sym e)
 
 module _ (s fields : List ℕ) where
-  pub read_short : length fields < 88 → (number_of WrongSize ≡ read_number_is s fields) × (fields ≡ fields_after s fields)
-  unfolding read_number_is fields_after
-  read_short h = rw (lt-ltb (length fields) 88 h) (refl, refl)
-
   module _ (h : 88 ≤ length fields) (b : Brief) (e : b ≡ brief_of (pdu_of s)) where
     same_kind : b.kind ≡ (pdu_of s).kind
     unfolding brief_of

@@ -45,6 +45,7 @@ fn number_of(kind: Kind) -> u64
 }
 
 // Reads a PDU into 88 words.
+#[tactic(auto, unfolding(crate::specs::Calls::read_number_is, crate::specs::Calls::fields_after))]
 pub fn read(octets: &[u8], fields: &mut [u64]) -> u64
     ensures { (result ≡ read_number_is octets.now fields.old) × (fields.new ≡ fields_after octets.now fields.old) }
 {
