@@ -10,7 +10,7 @@ fails, not where a proof no longer fits the code's shape, names what is gone or 
 What was found stands in crates/NAME/must-fail/REFUSED.md beside the sum of the texts that were read, the crate's and the edit's: an
 edit is tried again once they change.
 usage: scripts/refusals.py [--jobs N] [CRATE..]   (without a name: every crate; N crates are tried at a time)
-       scripts/refusals.py --recorded             (tries none: judges what is recorded of texts that stand, and counts the other edits)
+       scripts/refusals.py --recorded             (tries none: judges what is recorded of texts that stand, and wants a record of each edit)
 """
 import concurrent.futures
 import hashlib
@@ -212,7 +212,7 @@ def main(words):
                 for it in wrong:
                     print(f"refusals: {crate.name}/{name}: {it}")
     print(f"{programs} wrong programs in {checks} checks, {bad} not refused for themselves" + (f"; {left} edits have no record" if left else ""))
-    return 1 if bad else 0
+    return 1 if bad or left and not tries else 0
 
 
 if __name__ == "__main__":
