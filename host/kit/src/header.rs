@@ -1,6 +1,6 @@
 //! A C header beside the proved source that it declares and the wrapper's declarations of it, for the tests of a wrapper.
 
-use std::collections::BTreeMap;
+use std::collections::{BTreeMap, BTreeSet};
 
 /// The three texts, and what the names of all functions begin with.
 pub struct Header<'a> {
@@ -36,6 +36,13 @@ impl Header<'_> {
         functions.map(|rest| function(rest, |parameter| passed(parameter.split_once(": ").unwrap().1))).collect()
     }
 
+    /// Each function of a proved source with its parameters and clauses, blanks apart.
+    pub fn promised(&self, source: &str) -> BTreeMap<String, String> {
+        let start = format!("fn {}", self.prefix);
+        let functions = source.split(&start).skip(1);
+        functions.map(|rest| promise(rest.split_once("\n{").unwrap().0)).collect()
+    }
+
     /// The value of a name that the header defines, or that stands at a place of one of its enums.
     pub fn value(&self, name: &str) -> usize {
         let defined = self.header.lines().find_map(|line| line.strip_prefix("#define ")?.strip_prefix(name)?.strip_prefix(' '));
@@ -68,6 +75,19 @@ impl Header<'_> {
 /// Functions whose parameters are joined, so that a slice is as a pointer and a count.
 pub fn joined(functions: Functions) -> BTreeMap<String, String> {
     functions.into_iter().map(|(name, types)| (name, types.join(", "))).collect()
+}
+
+/// The names that the clauses of a source bring in, each with its path.
+pub fn brought_in(source: &str) -> BTreeSet<String> {
+    let lines = source.lines().filter_map(|line| line.strip_prefix("ghost use ")?.strip_suffix("};"));
+    let lists = lines.map(|line| line.split_once('{').unwrap());
+    lists.flat_map(|(path, names)| names.split(", ").map(move |name| format!("{path}{name}"))).collect()
+}
+
+fn promise(text: &str) -> (String, String) {
+    let name = text.split(['(', '<']).next().unwrap();
+    let words: String = text.split_whitespace().collect();
+    (name.to_string(), words.replace(",)", ")"))
 }
 
 fn passed(proved_type: &str) -> String {
@@ -116,5 +136,17 @@ mod tests {
         assert_eq!(header.declared_in_c(), header.declared_in_rust());
         assert_eq!(joined(header.declared_in_c()), joined(header.exported()));
         assert_eq!(["X_A", "X_B", "X_C"].map(|name| header.value(name)), [3, 1, 2]);
+    }
+
+    #[test]
+    fn promises_are_found() {
+        let called =
+            "ghost use A.{b, c};\npub fn x_f<'a>(\n    a: &'a [u8],\n) -> u64\n    ensures { result ≡ b a.now }\n{\n    0\n}\n";
+        let same = "pub fn x_f<'a>(a: &'a [u8]) -> u64\n    ensures { result ≡ b a.now }\n{\n    1\n}\n";
+        let other = "pub fn x_f<'a>(a: &'a [u8]) -> u64\n    ensures { result ≡ c a.now }\n{\n    0\n}\n";
+        let header = Header { header: "", wrapper: "", proved: "", prefix: "x_" };
+        assert_eq!(header.promised(called), header.promised(same));
+        assert_ne!(header.promised(called), header.promised(other));
+        assert_eq!(brought_in(called), BTreeSet::from(["A.b".to_string(), "A.c".to_string()]));
     }
 }

@@ -1,6 +1,6 @@
 //! The header beside the proved source that it declares, and the wrapper's declarations and constants beside the header.
 
-use kit::header::{joined, Header};
+use kit::header::{brought_in, joined, Header};
 use rds::{ffi, m, word};
 
 const HEADER: Header = Header {
@@ -9,6 +9,8 @@ const HEADER: Header = Header {
     proved: include_str!("../../../crates/rds_c/src/lib.rt"),
     prefix: "rds_",
 };
+
+const CALLED: &str = include_str!("../../../crates/rds/src/lib.rt");
 
 #[test]
 fn every_function_has_the_parameters_of_the_header() {
@@ -20,6 +22,14 @@ fn every_function_has_the_parameters_of_the_header() {
 #[test]
 fn the_header_declares_what_the_library_exports() {
     assert_eq!(joined(HEADER.declared_in_c()), joined(HEADER.exported()));
+}
+
+#[test]
+fn an_export_promises_what_the_function_that_it_calls_promises() {
+    let promised = HEADER.promised(HEADER.proved);
+    assert_eq!(promised.len(), 12);
+    assert_eq!(promised, HEADER.promised(CALLED));
+    assert!(brought_in(HEADER.proved).is_subset(&brought_in(CALLED)));
 }
 
 #[test]

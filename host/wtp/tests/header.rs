@@ -1,6 +1,6 @@
 //! The header beside the proved source that it declares, and the wrapper's declarations and constants beside the header.
 
-use kit::header::{joined, Header};
+use kit::header::{brought_in, joined, Header};
 use wtp::codec::word;
 use wtp::{ffi, Damage, Refused};
 
@@ -10,6 +10,8 @@ const HEADER: Header = Header {
     proved: include_str!("../../../crates/wtp_c/src/lib.rt"),
     prefix: "wtp_",
 };
+
+const CALLED: &str = include_str!("../../../crates/wtp/src/lib.rt");
 
 fn value(name: &str) -> usize {
     HEADER.value(name)
@@ -25,6 +27,14 @@ fn every_function_has_the_parameters_of_the_header() {
 #[test]
 fn the_header_declares_what_the_library_exports() {
     assert_eq!(joined(HEADER.declared_in_c()), joined(HEADER.exported()));
+}
+
+#[test]
+fn an_export_promises_what_the_function_that_it_calls_promises() {
+    let promised = HEADER.promised(HEADER.proved);
+    assert_eq!(promised.len(), 17);
+    assert_eq!(promised, HEADER.promised(CALLED));
+    assert!(brought_in(HEADER.proved).is_subset(&brought_in(CALLED)));
 }
 
 #[test]
