@@ -38,8 +38,3 @@ marks_more p n c w e f = rw or_comm (or_none w c ∙ rw (add-one, e, f, unmarked
   unmarked : (b : Bool) → eqb (pick b 0 1) 0 ≡ b
   unmarked true = refl
   unmarked false = refl
-
-pub marks_done : (p : ℕ → Bool) (n i c : ℕ) → i ≤ n → n ≤ i → eqb c 0 ≡ every p i → eqb c 0 ≡ every p n
-marks_done p n i c a b e =
-    let k : n ≡ i = omega arith in
-    rw k e

@@ -10,7 +10,9 @@ use native.Mathlib.Nat.{add-zero, add-suc, suc-add}
 use lib.ListN.{length, get_or, drop, set, length-drop}
 use lib.Dec.{ltb}
 use borrow.Author.Tests.{ltb-true, ltb-false}
-use lib.Seq.{length-sets, length-take-le, sets-eq}
+use borrow.Rule.Slice.PartMut.{put_mid}
+use Rattle.std.proofs.lemmas.Slice.{put_mid-paste}
+use lib.Seq.{length-sets, length-take-le, sets-eq, take-length}
 use Rattle.base_lists.specs.Seq.{pick, bit, part, put, every, total, tab}
 
 pub length_put {ℓ} : {A : Type ℓ} (t : List A) (at : ℕ) (w : List A) → length (put t at w) ≡ length t
@@ -52,6 +54,11 @@ put_front l w h = sets-eq w l 0 (omega arith) ∙ rw add_zero_left
   where
     add_zero_left : 0 + length w ≡ length w
     add_zero_left = omega arith
+
+-- what a part of t is overwritten with is put there
+pub put_mid_put : {A : Type 0} (t w : List A) (at k : ℕ) → at + length w ≤ length t → k ≡ length w → put_mid at k t w ≡ put t at w
+unfolding put
+put_mid_put t w at k h e = put_mid-paste at k t w w (length w) refl (sym e) refl ∙ rw take-length (sym (sets-eq w t at h))
 
 pub length_part {ℓ} : {A : Type ℓ} (s : List A) (a n : ℕ) → a + n ≤ length s → length (part s a n) ≡ n
 length_part s a n h = length-take-le n (drop a s) (rw length-drop (omega arith))

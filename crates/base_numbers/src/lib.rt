@@ -41,43 +41,40 @@ pub enum Malformed {
     D7,
 }
 
-// Whether something is sound, or how it is malformed.
-#[derive(Clone, Copy)]
-pub enum Verdict {
-    Sound,
-    Bad(Malformed),
-}
+impl From<Refusal> for u64 {
+    ghost from_gives = { λ it number. number ≡ number_of it };
 
-pub fn number(r: Refusal) -> u64
-    ensures { result ≡ number_of r }
-{
-    match r {
-        Refusal::WrongSize => 1,
-        Refusal::WrongTime => 2,
-        Refusal::PeerTooLarge => 3,
-        Refusal::TooLong => 4,
-        Refusal::WrongClass => 5,
-        Refusal::TidInUse => 6,
-        Refusal::TableFull => 7,
-        Refusal::NoRecord => 8,
-        Refusal::NotAllowed => 9,
-        Refusal::WrongSetting => 10,
-        Refusal::WrongLength => 11,
-        Refusal::WrongHeader => 15,
-        Refusal::WrongFrame => 16,
+    fn from(it: Refusal) -> u64 {
+        match it {
+            Refusal::WrongSize => 1,
+            Refusal::WrongTime => 2,
+            Refusal::PeerTooLarge => 3,
+            Refusal::TooLong => 4,
+            Refusal::WrongClass => 5,
+            Refusal::TidInUse => 6,
+            Refusal::TableFull => 7,
+            Refusal::NoRecord => 8,
+            Refusal::NotAllowed => 9,
+            Refusal::WrongSetting => 10,
+            Refusal::WrongLength => 11,
+            Refusal::WrongHeader => 15,
+            Refusal::WrongFrame => 16,
+        }
     }
 }
 
-pub fn code(d: Malformed) -> u64
-    ensures { result ≡ code_of d }
-{
-    match d {
-        Malformed::D1 => 101,
-        Malformed::D2 => 102,
-        Malformed::D3 => 103,
-        Malformed::D4 => 104,
-        Malformed::D5 => 105,
-        Malformed::D6 => 106,
-        Malformed::D7 => 107,
+impl From<Malformed> for u64 {
+    ghost from_gives = { λ it number. number ≡ code_of it };
+
+    fn from(it: Malformed) -> u64 {
+        match it {
+            Malformed::D1 => 101,
+            Malformed::D2 => 102,
+            Malformed::D3 => 103,
+            Malformed::D4 => 104,
+            Malformed::D5 => 105,
+            Malformed::D6 => 106,
+            Malformed::D7 => 107,
+        }
     }
 }

@@ -1,89 +1,76 @@
-// Numbers of several octets in a lent slice, low octet first.
+// Numbers of several octets in a lent slice, low octet first: one trait over the width.
 #![tactic(auto)]
 
-ghost use Rattle.std.specs.Prelude.{◌≡◌, ◌+◌, ◌≤◌, ◌<◌, ◌^◌, length};
+ghost use Rattle.std.specs.Prelude.{◌≡◌, ◌+◌, ◌≤◌, ℕ, length};
+ghost use Rattle.base_lists.specs.Seq.{put};
 ghost use Rattle.base_octets.specs.Octets.{num, gets, enc};
 
-fn wide(x: u8) -> u64
-    ensures { (result ≡ x) × (result < 256) }
-{
-    x as u64
+// A number of a fixed width.
+pub trait Number: Copy {
+    // How many octets it has, and which number it is.
+    ghost width: { ℕ };
+
+    ghost value: { Self → ℕ };
+
+    // The number whose octets lie at `at`.
+    fn get(t: &[u8], at: usize) -> Self
+        requires { at + width ≤ length t.now }
+        ensures { value result ≡ num (gets width at t.now) };
+
+    // Stores the number's octets at `at`.
+    fn put(self, t: &mut [u8], at: usize)
+        requires { at + width ≤ length t.old }
+        ensures { t.new ≡ put t.old at (enc width (value self)) };
 }
 
-pub fn get16(t: &[u8], at: usize) -> u16
-    requires { at + 2 ≤ length t.now }
-    ensures { result ≡ num (gets 2 at t.now) }
-{
-    let a = wide(t[at]);
-    let b = wide(t[at + 1]);
-    (a + 256 * b) as u16
+impl Number for u16 {
+    ghost width = { 2 };
+
+    ghost value = { λ x. x };
+
+    #[tactic(auto, unfolding(crate::specs::Octets::num, crate::specs::Octets::gets))]
+    fn get(t: &[u8], at: usize) -> u16 {
+        u16::from_le_bytes([t[at], t[at + 1]])
+    }
+
+    #[tactic(auto, unfolding(crate::specs::Octets::enc))]
+    fn put(self, t: &mut [u8], at: usize) {
+        let octets: [u8; 2] = self.to_le_bytes();
+        base_lists::store(t, at, &octets);
+    }
 }
 
-pub fn get32(t: &[u8], at: usize) -> u32
-    requires { at + 4 ≤ length t.now }
-    ensures { result ≡ num (gets 4 at t.now) }
-{
-    let a = wide(t[at]);
-    let b = wide(t[at + 1]);
-    let c = wide(t[at + 2]);
-    let d = wide(t[at + 3]);
-    (a + 256 * (b + 256 * (c + 256 * d))) as u32
+impl Number for u32 {
+    ghost width = { 4 };
+
+    ghost value = { λ x. x };
+
+    #[tactic(auto, unfolding(crate::specs::Octets::num, crate::specs::Octets::gets))]
+    fn get(t: &[u8], at: usize) -> u32 {
+        u32::from_le_bytes([t[at], t[at + 1], t[at + 2], t[at + 3]])
+    }
+
+    #[tactic(auto, unfolding(crate::specs::Octets::enc))]
+    fn put(self, t: &mut [u8], at: usize) {
+        let octets: [u8; 4] = self.to_le_bytes();
+        base_lists::store(t, at, &octets);
+    }
 }
 
-fn wide32(x: u32) -> u64
-    ensures { (result ≡ x) × (result < 2 ^ 32) }
-{
-    x as u64
-}
+impl Number for u64 {
+    ghost width = { 8 };
 
-pub fn get64(t: &[u8], at: usize) -> u64
-    requires { at + 8 ≤ length t.now }
-    ensures { result ≡ num (gets 8 at t.now) }
-{
-    let a = wide32(get32(t, at));
-    let b = wide32(get32(t, at + 4));
-    a + 4294967296 * b
-}
+    ghost value = { λ x. x };
 
-pub fn bytes16(v: u16) -> [u8; 2]
-    ensures { result ≡ enc 2 v }
-{
-    let v1 = v / 256;
-    [(v % 256) as u8, (v1 % 256) as u8]
-}
+    #[tactic(auto, unfolding(crate::specs::Octets::num, crate::specs::Octets::gets))]
+    fn get(t: &[u8], at: usize) -> u64 {
+        let w = &t[at..at + 8];
+        u64::from_le_bytes([w[0], w[1], w[2], w[3], w[4], w[5], w[6], w[7]])
+    }
 
-pub fn bytes32(v: u32) -> [u8; 4]
-    ensures { result ≡ enc 4 v }
-{
-    let v1 = v / 256;
-    let v2 = v1 / 256;
-    let v3 = v2 / 256;
-    [
-        (v % 256) as u8,
-        (v1 % 256) as u8,
-        (v2 % 256) as u8,
-        (v3 % 256) as u8,
-    ]
-}
-
-pub fn bytes64(v: u64) -> [u8; 8]
-    ensures { result ≡ enc 8 v }
-{
-    let v1 = v / 256;
-    let v2 = v1 / 256;
-    let v3 = v2 / 256;
-    let v4 = v3 / 256;
-    let v5 = v4 / 256;
-    let v6 = v5 / 256;
-    let v7 = v6 / 256;
-    [
-        (v % 256) as u8,
-        (v1 % 256) as u8,
-        (v2 % 256) as u8,
-        (v3 % 256) as u8,
-        (v4 % 256) as u8,
-        (v5 % 256) as u8,
-        (v6 % 256) as u8,
-        (v7 % 256) as u8,
-    ]
+    #[tactic(auto, unfolding(crate::specs::Octets::enc))]
+    fn put(self, t: &mut [u8], at: usize) {
+        let octets: [u8; 8] = self.to_le_bytes();
+        base_lists::store(t, at, &octets);
+    }
 }
