@@ -4,6 +4,7 @@ use borrow.Author.Tests.{le-ltb}
 use mathlib.Core.Path.{◌≡◌, refl, sym, ap}
 use mathlib.Core.List.{List}
 use mathlib.Core.Bool.{true, false}
+use Rattle.std.specs.Prelude as Prelude
 use lib.ListN.{length}
 use Rattle.base_lists.specs.Seq.{put}
 use Rattle.base_lists.proofs.StoresAndParts.{true_false}
@@ -16,10 +17,9 @@ use Rattle.codec_reading.specs.Read.{pdu_of}
 use Rattle.codec_reading.specs.Brief.{items_at}
 use Rattle.codec_words.specs.Listed.{words_from}
 use Rattle.c_codec.proofs.ReadWords.{read_words_holds}
-use Rattle.codec_writing.specs.Writing.{Done, done, written, written_answer, output_after}
-use Rattle.codec_writing.specs.declared.Written.{Written}
+use Rattle.codec_writing.specs.Writing.{Written, Done, done, written, written_answer, output_after}
 use Rattle.table_fresh.specs.Fresh.{Left, left, left_by_is, fresh_answer, table_after_fresh}
-use Rattle.table_fresh.specs.declared.Fresh.{Fresh}
+use Rattle.base_numbers.specs.declared.Refusal.{Refusal}
 use Rattle.c_codec.specs.Calls.{kind_number, read_number_is, fields_after}
 
 -- a PDU of a sound kind is accepted
@@ -59,6 +59,6 @@ unfolding written
 writing fields bytes out a o e = (ap (λ (d : Done). d.answer) e, ap (λ (d : Done). d.output) e)
 
 -- the fresh-table call's equation, part by part
-pub freshly : (t ws : List ℕ) (first : ℕ) (a : Fresh) (o : List ℕ) → left a o ≡ left_by_is t ws first → (a ≡ fresh_answer (length t) ws first) × (o ≡ table_after_fresh (fresh_answer (length t) ws first) t ws first)
+pub freshly : (t ws : List ℕ) (first : ℕ) (a : Prelude.Result Unit Refusal) (o : List ℕ) → left a o ≡ left_by_is t ws first → (a ≡ fresh_answer (length t) ws first) × (o ≡ table_after_fresh (fresh_answer (length t) ws first) t ws first)
 unfolding left_by_is
 freshly t ws first a o e = (ap (λ (l : Left). l.answer) e, ap (λ (l : Left). l.table) e)

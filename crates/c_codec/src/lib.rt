@@ -9,11 +9,8 @@ ghost use Rattle.c_codec.specs.Calls.{kind_number, read_number_is, fields_after,
 
 use base_layout::ANSWER_SIZE;
 use base_numbers::Refusal;
-use codec_joining::Joining;
 use codec_pdu::Kind;
-use codec_separation::Separation;
-use codec_writing::Written;
-use table_fresh::Fresh;
+use codec_separation::Parts;
 
 const HALF: usize = ANSWER_SIZE / 2;
 
@@ -22,8 +19,8 @@ pub fn make_fresh(table: &mut [u8], settings: &[u64], first_tid: u64) -> u64
     ensures { (result ≡ fresh_number (fresh_answer (length table.old) settings.now first_tid)) × (table.new ≡ table_after_fresh (fresh_answer (length table.old) settings.now first_tid) table.old settings.now first_tid) }
 {
     match table_fresh::make_fresh(table, settings, first_tid) {
-        Fresh::Made => 0,
-        Fresh::Refused(r) => base_numbers::number(r),
+        Ok(()) => 0,
+        Err(r) => u64::from(r),
     }
 }
 
@@ -32,33 +29,26 @@ fn number_of(kind: Kind) -> u64
     ensures { result ≡ kind_number kind }
 {
     match kind {
-        Kind::Invoke { .. } => 0,
-        Kind::Result { .. } => 0,
-        Kind::Ack { .. } => 0,
-        Kind::Abort { .. } => 0,
-        Kind::SegInvoke { .. } => 0,
-        Kind::SegResult { .. } => 0,
-        Kind::Nack { .. } => 0,
-        Kind::Wrong(d) => base_numbers::code(d),
-        Kind::Refused(r) => base_numbers::number(r),
+        Kind::Wrong(d) => u64::from(d),
+        Kind::Refused(r) => u64::from(r),
+        _ => 0,
     }
 }
 
 // Reads a PDU into 88 words.
-#[tactic(auto, unfolding(crate::specs::Calls::read_number_is, crate::specs::Calls::fields_after))]
+#[tactic(auto, using(crate::proofs::Outcomes::read_sound, crate::proofs::Outcomes::read_unsound), unfolding(crate::specs::Calls::read_number_is, crate::specs::Calls::fields_after))]
 pub fn read(octets: &[u8], fields: &mut [u64]) -> u64
     ensures { (result ≡ read_number_is octets.now fields.old) × (fields.new ≡ fields_after octets.now fields.old) }
 {
     if fields.len() < 88 {
-        return base_numbers::number(Refusal::WrongSize);
+        return u64::from(Refusal::WrongSize);
     }
     let b = codec_reading::brief(octets);
-    let kind = b.kind;
-    if codec_pdu::sound(kind) {
+    if codec_pdu::sound(b.kind) {
         codec_words::store_fields(fields, octets, codec_reading::items_at(octets), b);
         return 0;
     }
-    number_of(kind)
+    number_of(b.kind)
 }
 
 // An answer whose first word is a length, the others zero: in two stores, which the compiler writes out, since a call to clear so many words takes of the stack.
@@ -67,10 +57,10 @@ fn store_length(answer: &mut [u64], n: usize)
     ensures { answer.new ≡ put answer.old 0 (length_answer n) }
 {
     let zeros = [0u64; HALF];
-    base_lists::store_words(&mut *answer, HALF, &zeros);
+    base_lists::store(&mut *answer, HALF, &zeros);
     let mut words = [0u64; HALF];
     words[0] = n as u64;
-    base_lists::store_words(answer, 0, &words);
+    base_lists::store(answer, 0, &words);
 }
 
 // Writes the PDU that 88 words say, whose parts lie in `bytes`, at the start of the output.
@@ -78,15 +68,14 @@ pub fn write(fields: &[u64], bytes: &[u8], out: &mut [u8], answer: &mut [u64]) -
     ensures { (result ≡ write_number fields.now bytes.now out.old answer.old) × (out.new ≡ write_output fields.now bytes.now out.old answer.old) × (answer.new ≡ write_answer fields.now bytes.now out.old answer.old) }
 {
     if answer.len() < ANSWER_SIZE {
-        return base_numbers::number(Refusal::WrongSize);
+        return u64::from(Refusal::WrongSize);
     }
     match codec_writing::write(fields, bytes, out) {
-        Written::Length(n) => {
+        Ok(n) => {
             store_length(answer, n);
             0
         }
-        Written::Malformed(d) => base_numbers::code(d),
-        Written::Refused(r) => base_numbers::number(r),
+        Err(fault) => u64::from(fault),
     }
 }
 
@@ -96,31 +85,32 @@ pub fn separate(datagram: &[u8], k: u64, part: &mut [u64]) -> u64
     ensures { (result ≡ separate_number datagram.now k part.old) × (part.new ≡ part_after datagram.now k part.old) }
 {
     if part.len() < 3 {
-        return base_numbers::number(Refusal::WrongSize);
+        return u64::from(Refusal::WrongSize);
     }
     match codec_separation::separate(datagram, k) {
-        Separation::Parts { count, start, len } => {
-            let words = [start as u64, len as u64, count as u64];
-            base_lists::store_words(part, 0, &words);
+        Ok(Parts { count, part: found }) => {
+            let words = [found.start as u64, found.len as u64, count as u64];
+            base_lists::store(part, 0, &words);
             0
         }
-        Separation::Refused(r) => base_numbers::number(r),
+        Err(r) => u64::from(r),
     }
 }
 
 // Joins PDUs of these lengths, one after the other in `bytes`, to a datagram at the start of the output.
+#[inline(never)]
 #[tactic(auto, unfolding(crate::specs::Calls::join_number, crate::specs::Calls::join_output, crate::specs::Calls::join_answer))]
 pub fn join(bytes: &[u8], lengths: &[u64], out: &mut [u8], answer: &mut [u64]) -> u64
     ensures { (result ≡ join_number bytes.now lengths.now out.old answer.old) × (out.new ≡ join_output bytes.now lengths.now out.old answer.old) × (answer.new ≡ join_answer bytes.now lengths.now out.old answer.old) }
 {
     if answer.len() < ANSWER_SIZE {
-        return base_numbers::number(Refusal::WrongSize);
+        return u64::from(Refusal::WrongSize);
     }
     match codec_joining::join(bytes, lengths, out) {
-        Joining::Length(n) => {
+        Ok(n) => {
             store_length(answer, n);
             0
         }
-        Joining::Refused(r) => base_numbers::number(r),
+        Err(r) => u64::from(r),
     }
 }

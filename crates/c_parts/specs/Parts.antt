@@ -1,11 +1,12 @@
 -- The C interface of two forms of document 01: a datagram's PDU read as a part of it, and the data of an indication as a part of the slice that it names.
-use Rattle.std.specs.Prelude.{ℕ, ◌+◌, ◌*◌, List, length, get_or, ltb, eqb}
+use Rattle.std.specs.Prelude.{ℕ, ◌+◌, ◌*◌, List, length, get_or, ltb, eqb, Result, Ok, Err}
 use Rattle.base_layout.specs.Layout.{answer_size}
 use Rattle.base_lists.specs.Seq.{pick, put, part}
 use Rattle.base_numbers.specs.Numbers.{number_of}
+use Rattle.base_numbers.specs.declared.Refusal.{Refusal}
 use Rattle.base_numbers.specs.declared.Refusal.TheVariants.{WrongSize, WrongLength}
 use Rattle.codec_separation.specs.Separate.{parts_of, answer_at}
-use Rattle.codec_separation.specs.declared.Separation.{Separation}
+use Rattle.codec_separation.specs.declared.Parts.{Parts}
 use Rattle.step_shown.specs.declared.Source.{Source}
 use Rattle.step_shown.specs.declared.Source.TheVariants.{Datagram, Store}
 use Rattle.step_shown.specs.declared.Place.{Place}
@@ -13,13 +14,13 @@ use Rattle.step_shown.specs.Parts.{data_of}
 use Rattle.c_codec.specs.Calls.{or_size, read_number_is, fields_after}
 
 -- wtp_read_part: 01, "Each PDU is handed on as the part of the datagram that begins after its length": what wtp_read gives of that part, which is empty where there is none
-abbrev pub number_by : Separation → List ℕ → List ℕ → ℕ
-number_by (Separation.Refused r) d fields = number_of r
-number_by (Separation.Parts count start len) d fields = read_number_is (part d start len) fields
+abbrev pub number_by : Result Parts Refusal → List ℕ → List ℕ → ℕ
+number_by (Err r) d fields = number_of r
+number_by (Ok seen) d fields = read_number_is (part d seen.part.start seen.part.len) fields
 
-abbrev pub fields_by : Separation → List ℕ → List ℕ → List ℕ
-fields_by (Separation.Refused r) d fields = fields
-fields_by (Separation.Parts count start len) d fields = fields_after (part d start len) fields
+abbrev pub fields_by : Result Parts Refusal → List ℕ → List ℕ → List ℕ
+fields_by (Err r) d fields = fields
+fields_by (Ok seen) d fields = fields_after (part d seen.part.start seen.part.len) fields
 
 -- wtp_read_part: its result
 unfoldable pub read_part_number : List ℕ → ℕ → List ℕ → ℕ

@@ -6,7 +6,7 @@ ghost use Rattle.c_parts.specs.Parts.{read_part_number, read_part_fields, source
 ghost use Rattle.step_shown.specs.Parts.{data_of};
 
 use base_numbers::Refusal;
-use codec_separation::Separation;
+use codec_separation::Parts;
 use step_shown::{Place, Source};
 
 // Reads the k-th PDU of a datagram into 88 words: the reader is handed that part, an empty one where there is none.
@@ -15,15 +15,13 @@ pub fn read_part(datagram: &[u8], k: u64, fields: &mut [u64]) -> u64
     ensures { (result ≡ read_part_number datagram.now k fields.old) × (fields.new ≡ read_part_fields datagram.now k fields.old) }
 {
     if fields.len() < 88 {
-        return base_numbers::number(Refusal::WrongSize);
+        return u64::from(Refusal::WrongSize);
     }
     match codec_separation::separate(datagram, k) {
-        Separation::Refused(r) => base_numbers::number(r),
-        Separation::Parts {
-            count: _,
-            start,
-            len,
-        } => c_codec::read(&datagram[start..start + len], fields),
+        Ok(Parts { part, .. }) => {
+            c_codec::read(&datagram[part.start..part.start + part.len], fields)
+        }
+        Err(r) => u64::from(r),
     }
 }
 
@@ -44,9 +42,8 @@ fn place_said(answer: &[u64], at: usize) -> Place
     requires { at + 12 ≤ length answer.now }
     ensures { result ≡ place_said answer.now at }
 {
-    let source = source_said(answer[at + 8]);
     Place {
-        source: source,
+        source: source_said(answer[at + 8]),
         start: answer[at + 9] as usize,
         len: answer[at + 10] as usize,
     }
@@ -57,16 +54,15 @@ fn place_said(answer: &[u64], at: usize) -> Place
 fn copy_part<'a>(datagram: &'a [u8], store: &'a [u8], place: Place, out: &mut [u8]) -> u64
     ensures { (result ≡ copy_number (data_of datagram.now store.now place) place.len out.old) × (out.new ≡ copy_output (data_of datagram.now store.now place) place.len out.old) }
 {
-    let len = place.len;
-    if out.len() < len {
-        return base_numbers::number(Refusal::WrongSize);
+    if out.len() < place.len {
+        return u64::from(Refusal::WrongSize);
     }
     let named = step_shown::data_of(datagram, store, place);
-    if named.len() == len {
+    if named.len() == place.len {
         base_lists::store(out, 0, named);
         return 0;
     }
-    base_numbers::number(Refusal::WrongLength)
+    u64::from(Refusal::WrongLength)
 }
 
 // Copies the data of an answer's indication, 0 the first and 1 the second, to the start of the output.
@@ -81,10 +77,10 @@ pub fn shown_data<'a>(
     ensures { (result ≡ data_number datagram.now store.now answer.now k out.old) × (out.new ≡ data_output datagram.now store.now answer.now k out.old) }
 {
     if answer.len() < base_layout::ANSWER_SIZE {
-        return base_numbers::number(Refusal::WrongSize);
+        return u64::from(Refusal::WrongSize);
     }
     if 1 < k {
-        return base_numbers::number(Refusal::WrongLength);
+        return u64::from(Refusal::WrongLength);
     }
     let place = place_said(answer, 4 + 12 * (k as usize));
     copy_part(datagram, store, place, out)

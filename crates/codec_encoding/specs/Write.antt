@@ -1,9 +1,8 @@
 -- The octets of a PDU (01, "Bytes on the air"; 002, 8.2 to 8.4). Items, Nack list and user data are parts of a source s.
-use Rattle.std.specs.Prelude.{ℕ, ◌+◌, ◌*◌, ◌/◌, ◌%◌, ◌≤◌, ◌<◌, ◌≡◌, List, [], ◌∷◌, ◌++◌, Bool, true, false, length, take, ltb, eqb}
+use Rattle.std.specs.Prelude.{ℕ, ◌+◌, ◌*◌, ◌/◌, ◌%◌, ◌≤◌, ◌<◌, ◌≡◌, List, [], ◌∷◌, ◌++◌, Bool, true, false, length, take, ltb, eqb, Ok, Err}
 use Rattle.base_lists.specs.Seq.{pick, bit, part}
 use Rattle.base_numbers.specs.declared.Malformed.TheVariants.{D4, D5, D6, D7}
-use Rattle.base_numbers.specs.declared.Verdict.{Verdict}
-use Rattle.base_numbers.specs.declared.Verdict.TheVariants.{Sound, Bad}
+use Rattle.codec_items.specs.Items.{Verdict}
 use Rattle.codec_items.specs.declared.Item.{Item}
 use Rattle.codec_pdu.specs.Pdu.{bare_of}
 use Rattle.codec_pdu.specs.declared.Kind.{Kind}
@@ -116,26 +115,26 @@ pub record Fit (s : List ℕ) (p : Pdu) : Type 0 where
 
 -- the first fault of two, in order
 abbrev pub or_else : Verdict → Verdict → Verdict
-or_else (Bad d) v = Bad d
-or_else Sound v = v
+or_else (Err d) v = Err d
+or_else (Ok tt) v = v
 
 -- 01: "D5 class 3; D6 abort type over 1", of fields that fit
 unfoldable pub kind_fault : Kind → Verdict
-kind_fault (Invoke a b c v n u l) = pick (eqb l 3) (Bad D5) Sound
-kind_fault (Result a b c) = Sound
-kind_fault (Ack a c) = Sound
-kind_fault (Abort t r) = pick (ltb 1 t) (Bad D6) Sound
-kind_fault (SegInvoke a b c p) = Sound
-kind_fault (SegResult a b c p) = Sound
-kind_fault (Nack c n l) = Sound
-kind_fault (Wrong d) = Bad d
-kind_fault (Refused r) = Sound
+kind_fault (Invoke a b c v n u l) = pick (eqb l 3) (Err D5) (Ok tt)
+kind_fault (Result a b c) = Ok tt
+kind_fault (Ack a c) = Ok tt
+kind_fault (Abort t r) = pick (ltb 1 t) (Err D6) (Ok tt)
+kind_fault (SegInvoke a b c p) = Ok tt
+kind_fault (SegResult a b c p) = Ok tt
+kind_fault (Nack c n l) = Ok tt
+kind_fault (Wrong d) = Err d
+kind_fault (Refused r) = Ok tt
 
 -- 01: "D4 the sixteenth, complete, has CON set"; "D7 bytes left after Ack, Abort or Nack"
 unfoldable pub rest_fault : Pdu → Verdict
 rest_fault p =
-    pick (ltb 16 p.count) (Bad D4)
-    (pick (bare_of p.kind) (pick (eqb p.len 0) Sound (Bad D7)) Sound)
+    pick (ltb 16 p.count) (Err D4)
+    (pick (bare_of p.kind) (pick (eqb p.len 0) (Ok tt) (Err D7)) (Ok tt))
 
 -- 01: "The writer answers the same for fields that would read so", of a PDU that fits
 unfoldable pub fault_of : Pdu → Verdict

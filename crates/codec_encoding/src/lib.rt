@@ -12,7 +12,7 @@ use codec_pdu::Kind;
 fn three_of(a: bool, b: bool, c: bool) -> u8
     ensures { (result ≡ three a b c) × (result < 8) }
 {
-    base_lists::bit(a) * 4 + base_lists::bit(b) * 2 + base_lists::bit(c)
+    u8::from(a) * 4 + u8::from(b) * 2 + u8::from(c)
 }
 
 // Type and flags of a kind: the first octet without CON.
@@ -28,9 +28,8 @@ fn first_octet(kind: Kind) -> u8
         Kind::Abort { abort_type, .. } => 32 + abort_type,
         Kind::SegInvoke { gtr, ttr, rid, .. } => 40 + three_of(gtr, ttr, rid),
         Kind::SegResult { gtr, ttr, rid, .. } => 48 + three_of(gtr, ttr, rid),
-        Kind::Nack { rid, .. } => 56 + base_lists::bit(rid),
-        Kind::Wrong(_) => 0,
-        Kind::Refused(_) => 0,
+        Kind::Nack { rid, .. } => 56 + u8::from(rid),
+        Kind::Wrong(_) | Kind::Refused(_) => 0,
     }
 }
 
@@ -39,7 +38,7 @@ pub fn invoke_octet(version: u8, tidnew: bool, up: bool, class: u8) -> u8
     requires { (version < 4) × (class < 4) }
     ensures { result ≡ version * 64 + bit tidnew * 32 + bit up * 16 + class }
 {
-    version * 64 + base_lists::bit(tidnew) * 32 + base_lists::bit(up) * 16 + class
+    version * 64 + u8::from(tidnew) * 32 + u8::from(up) * 16 + class
 }
 
 // Stores what stands after the TID, from place 3 of the output; the place after it.
@@ -60,28 +59,19 @@ fn put_extra(out: &mut [u8], src: &[u8], kind: Kind) -> usize
             out[3] = invoke_octet(version, tidnew, up, class);
             4
         }
-        Kind::Result { .. } => 3,
-        Kind::Ack { .. } => 3,
-        Kind::Abort { reason, .. } => {
-            out[3] = reason;
-            4
-        }
-        Kind::SegInvoke { packet, .. } => {
-            out[3] = packet;
-            4
-        }
-        Kind::SegResult { packet, .. } => {
-            out[3] = packet;
+        Kind::Abort { reason: octet, .. }
+        | Kind::SegInvoke { packet: octet, .. }
+        | Kind::SegResult { packet: octet, .. } => {
+            out[3] = octet;
             4
         }
         Kind::Nack { count, list, .. } => {
-            let n = base_lists::size(count);
+            let n = usize::from(count);
             out[3] = count;
             base_lists::copy(&mut *out, 4, src, list, n);
             4 + n
         }
-        Kind::Wrong(_) => 3,
-        Kind::Refused(_) => 3,
+        Kind::Result { .. } | Kind::Ack { .. } | Kind::Wrong(_) | Kind::Refused(_) => 3,
     }
 }
 
@@ -92,29 +82,28 @@ pub fn put_header(out: &mut [u8], src: &[u8], con: bool, kind: Kind, tid: SendTi
     requires tid_in_bounds { length (header_of_is src.now con kind tid.0) ≤ length out.old }
     ensures { (result ≡ length (header_of_is src.now con kind tid.0)) × (out.new ≡ put out.old 0 (header_of_is src.now con kind tid.0)) }
 {
-    let first = base_lists::bit(con) * 128 + first_octet(kind);
-    let head = [first, base_tids::high(tid), base_tids::low(tid)];
+    let first = u8::from(con) * 128 + first_octet(kind);
+    let head = [first, tid.high(), tid.low()];
     base_lists::store(&mut *out, 0, &head);
     put_extra(out, src, kind)
 }
 
 // Stores an item, whose data lies in src, from `at` on; the place after it.
+#[tactic(auto, using(crate::proofs::ItemOctets::long_octets, crate::proofs::ItemOctets::short_octets, crate::proofs::ItemOctets::long_length, crate::proofs::ItemOctets::short_length), unfolding(base_lists::specs::Seq::put))]
 pub fn put_item(out: &mut [u8], at: usize, src: &[u8], it: Item, con: bool) -> usize
     requires fit_item { FitItem src.now it }
     requires it_in_bounds { at + length (item_octets src.now con it) ≤ length out.old }
     ensures { (result ≡ at + length (item_octets src.now con it)) × (out.new ≡ put out.old at (item_octets src.now con it)) }
 {
-    let start = it.start;
-    let len = it.len;
-    let top = base_lists::bit(con) * 128 + it.identity * 8;
+    let top = u8::from(con) * 128 + it.identity * 8;
     if it.long {
         out[at] = top + 4;
-        out[at + 1] = len as u8;
-        base_lists::copy(&mut *out, at + 2, src, start, len);
-        at + 2 + len
+        out[at + 1] = it.len as u8;
+        base_lists::copy(&mut *out, at + 2, src, it.start, it.len);
+        at + 2 + it.len
     } else {
-        out[at] = top + len as u8;
-        base_lists::copy(&mut *out, at + 1, src, start, len);
-        at + 1 + len
+        out[at] = top + it.len as u8;
+        base_lists::copy(&mut *out, at + 1, src, it.start, it.len);
+        at + 1 + it.len
     }
 }

@@ -2,6 +2,8 @@
 use mathlib.Core.Path.{◌≡◌}
 use mathlib.Core.List.{List}
 use Prim.Native.Nat.{ℕ, zero, suc, ◌-◌, ◌≤◌}
+use Rattle.std.specs.Prelude.{Err, None}
+use Rattle.base_numbers.specs.declared.Malformed.TheVariants.{D4}
 use native.Mathlib.Omega.{arith}
 use native.Mathlib.Numerals.{sub-one}
 use Rattle.codec_items.specs.Found.{end_from, end_after_is, place_from, place_after}
@@ -9,7 +11,7 @@ use Rattle.codec_items.specs.Items.{item_at}
 use Rattle.codec_items.specs.declared.Sought.{Sought}
 
 module _ (s : List ℕ) (at : ℕ) where
-  pub end_last : (k : ℕ) → k ≡ 1 → end_from (k - 1) s at ≡ 1
+  pub end_last : (k : ℕ) → k ≡ 1 → end_from (k - 1) s at ≡ Err D4
   unfolding end_from
   end_last k e = rw e
 
@@ -19,7 +21,7 @@ module _ (s : List ℕ) (at : ℕ) where
   end_more (suc k) h = rw sub-one
 
   module _ (sought : Sought) where
-    pub place_last : (k : ℕ) → k ≤ 1 → place_from sought (k - 1) s at ≡ 0
+    pub place_last : (k : ℕ) → k ≤ 1 → place_from sought (k - 1) s at ≡ None
     unfolding place_from
     place_last k e = rw (none k e) where
       none : (k : ℕ) → k ≤ 1 → k - 1 ≡ 0

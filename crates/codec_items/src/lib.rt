@@ -6,7 +6,7 @@ ghost use Rattle.codec_items.specs.Items.{item_of, item_at};
 ghost use Rattle.codec_items.specs.Info.{sought_by};
 ghost use Rattle.codec_items.specs.Found.{end_from, place_from, info_in, unknown_in};
 
-use base_numbers::Verdict;
+use base_numbers::Malformed;
 
 // An item as it lies in its octets: identity, long form or short, and where its data stands.
 #[derive(Clone, Copy)]
@@ -17,11 +17,12 @@ pub struct Item {
     pub len: usize,
 }
 
-// What stands at a place: a whole item, its CON bit and the place after it; or one that is cut.
+// What stands at a place: a whole item, its CON bit and the place after it.
 #[derive(Clone, Copy)]
-pub enum Got {
-    One { item: Item, con: bool, next: usize },
-    Cut,
+pub struct Got {
+    pub item: Item,
+    pub con: bool,
+    pub next: usize,
 }
 
 // Place and length of the data of an Info item; 0 and 0 where there is none.
@@ -45,75 +46,55 @@ pub enum Sought {
     UnknownItem,
 }
 
-// What the walk finds: the items, how many they are and the place after them; or how they are malformed.
-#[derive(Clone, Copy)]
-pub struct Items {
-    pub verdict: Verdict,
-    pub count: usize,
-    pub end: usize,
-    pub list: [Item; 16],
-}
-
 // The item with first octet h whose len octets of data start at b, unless it is cut.
-fn item_of(s: &[u8], h: u8, long: bool, b: usize, len: usize) -> Got
-    requires { (b ≤ length s.now) × (len < 256) }
+fn item_of(s: &[u8], h: u8, long: bool, b: usize, len: u8) -> Option<Got>
+    requires { b ≤ length s.now }
     ensures { result ≡ item_of s.now h long b len }
 {
+    let len = usize::from(len);
     if len <= s.len() - b {
-        Got::One {
+        Some(Got {
             item: Item {
                 identity: h / 8 % 16,
-                long: long,
+                long,
                 start: b,
-                len: len,
+                len,
             },
             con: 128 <= h,
             next: b + len,
-        }
+        })
     } else {
-        Got::Cut
+        None
     }
 }
 
-// What stands at a place.
-pub fn item_at(s: &[u8], at: usize) -> Got
+// What stands at a place, unless it is cut.
+pub fn item_at(s: &[u8], at: usize) -> Option<Got>
     ensures { result ≡ item_at s.now at }
 {
-    if s.len() <= at {
-        return Got::Cut;
-    }
-    let h = s[at];
+    let h = *s.get(at)?;
     let b = at + 1;
     if h / 4 % 2 == 0 {
-        return item_of(s, h, false, b, base_lists::size(h % 4));
+        return item_of(s, h, false, b, h % 4);
     }
-    if s.len() <= b {
-        return Got::Cut;
-    }
-    let len = s[b];
-    item_of(s, h, true, b + 1, base_lists::size(len))
+    let len = *s.get(b)?;
+    item_of(s, h, true, b + 1, len)
 }
 
-// The place after the items from `at` on, of which `left` are still permitted; 0 where one is cut, 1 where one more follows.
+// The place after the items from `at` on, of which `left` are still permitted; D3 where one is cut, D4 where one more follows.
 #[tactic(auto, using(crate::proofs::WalkSteps::end_last, crate::proofs::WalkSteps::end_more))]
-pub fn end_from(s: &[u8], at: usize, left: usize) -> usize
+pub fn end_from(s: &[u8], at: usize, left: usize) -> Result<usize, Malformed>
     requires { 1 ≤ left }
     ensures { result ≡ end_from left s.now at }
 {
-    match item_at(s, at) {
-        Got::Cut => 0,
-        Got::One { con, next, .. } => {
-            if con {
-                if left == 1 {
-                    1
-                } else {
-                    end_from(s, next, left - 1)
-                }
-            } else {
-                next
-            }
-        }
+    let got = item_at(s, at).ok_or(Malformed::D3)?;
+    if !got.con {
+        return Ok(got.next);
     }
+    if left == 1 {
+        return Err(Malformed::D4);
+    }
+    end_from(s, got.next, left - 1)
 }
 
 // Whether an item of this identity is sought: 1 is Info; 8.4 knows 0 to 5.
@@ -126,67 +107,50 @@ fn is_sought(sought: Sought, identity: u8) -> bool
     }
 }
 
-// The place of the first item sought among the items from `at` on, `left` at most; 0 where there is none.
+// The place of the first item sought among the items from `at` on, `left` at most.
 #[tactic(auto, using(crate::proofs::WalkSteps::place_last, crate::proofs::WalkSteps::place_more))]
-pub fn place_from(s: &[u8], at: usize, left: usize, sought: Sought) -> usize
+pub fn place_from(s: &[u8], at: usize, left: usize, sought: Sought) -> Option<usize>
     requires { 1 ≤ left }
     ensures { result ≡ place_from sought left s.now at }
 {
-    match item_at(s, at) {
-        Got::Cut => 0,
-        Got::One { item, con, next } => {
-            if is_sought(sought, item.identity) {
-                return at;
-            }
-            if con {
-                if 1 < left {
-                    place_from(s, next, left - 1, sought)
-                } else {
-                    0
-                }
-            } else {
-                0
-            }
-        }
+    let got = item_at(s, at)?;
+    if is_sought(sought, got.item.identity) {
+        return Some(at);
+    }
+    if got.con && 1 < left {
+        place_from(s, got.next, left - 1, sought)
+    } else {
+        None
     }
 }
 
-// The data of the item at a place; none at 0.
-#[tactic(auto, unfolding(crate::specs::Found::info_in))]
-pub fn info_in(s: &[u8], place: usize) -> Info
+// The data of the item at a place.
+pub fn info_in(s: &[u8], place: Option<usize>) -> Info
     ensures { result ≡ info_in s.now place }
 {
-    if place == 0 {
-        return Info { start: 0, len: 0 };
-    }
-    match item_at(s, place) {
-        Got::Cut => Info { start: 0, len: 0 },
-        Got::One { item, .. } => Info {
-            start: item.start,
-            len: item.len,
+    match place.and_then(|at| item_at(s, at)) {
+        Some(got) => Info {
+            start: got.item.start,
+            len: got.item.len,
         },
+        None => Info { start: 0, len: 0 },
     }
 }
 
-// The identity of the item at a place, and that place; none at 0.
-#[tactic(auto, unfolding(crate::specs::Found::unknown_in))]
-pub fn unknown_in(s: &[u8], place: usize) -> Unknown
+// The identity of the item at a place, and that place.
+pub fn unknown_in(s: &[u8], place: Option<usize>) -> Unknown
     ensures { result ≡ unknown_in s.now place }
 {
-    if place == 0 {
-        return Unknown {
-            identity: 0,
-            place: 0,
-        };
-    }
+    let none = Unknown {
+        identity: 0,
+        place: 0,
+    };
+    let Some(place) = place else { return none };
     match item_at(s, place) {
-        Got::Cut => Unknown {
-            identity: 0,
-            place: 0,
+        Some(got) => Unknown {
+            identity: got.item.identity,
+            place,
         },
-        Got::One { item, .. } => Unknown {
-            identity: item.identity,
-            place: place,
-        },
+        None => none,
     }
 }

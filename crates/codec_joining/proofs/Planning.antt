@@ -5,12 +5,12 @@ use borrow.Author.Tests.{ltb-false, leb-true, le-leb, le-ltb, eqb-false, ne_eqb}
 use mathlib.Core.Path.{◌≡◌, refl, sym, ap, ◌∙◌}
 use mathlib.Core.List.{List}
 use mathlib.Core.Bool.{Bool, true, false}
+use Rattle.std.specs.Prelude.{Ok, Err}
 use lib.ListN.{length, get_or, drop_of_length-le}
 use lib.Dec.{ltb, leb, eqb}
 use Rattle.base_lists.specs.Seq.{pick}
 use Rattle.base_lists.proofs.StoresAndParts.{true_false, not_so}
 use Rattle.base_numbers.specs.declared.Refusal.TheVariants.{WrongLength}
-use Rattle.codec_joining.specs.declared.Joining.TheVariants.{Length, Refused}
 use Rattle.codec_joining.specs.Join.{length_octets, each_in_range, sum, joinable, planned_answer}
 use Rattle.codec_joining.specs.Fitting.{fits_in}
 use Rattle.codec_joining.specs.Joinable.{size}
@@ -52,11 +52,11 @@ pub record Planned (bytes lengths : List ℕ) (left room i : ℕ) : Type 0 where
 pub planned_none : (bytes lengths : List ℕ) → Planned bytes lengths (length bytes) 1499 0
 planned_none bytes lengths = record { used = 0; taken = 0; lent = omega arith; free = refl; upto = omega arith; rest = left_none lengths }
 
-refused_answer : (bytes lengths : List ℕ) → (joinable bytes lengths ≡ true → ⊥) → Refused WrongLength ≡ planned_answer bytes lengths
+refused_answer : (bytes lengths : List ℕ) → (joinable bytes lengths ≡ true → ⊥) → Err WrongLength ≡ planned_answer bytes lengths
 unfolding planned_answer
 refused_answer bytes lengths f = rw (not_so (joinable bytes lengths) f)
 
-pub no_pdu_holds : (bytes lengths : List ℕ) → length lengths ≡ 0 → Refused WrongLength ≡ planned_answer bytes lengths
+pub no_pdu_holds : (bytes lengths : List ℕ) → length lengths ≡ 0 → Err WrongLength ≡ planned_answer bytes lengths
 no_pdu_holds bytes lengths e = refused_answer bytes lengths (λ t. omega (arith, (joinable_facts bytes lengths t).some))
 
 module _ {bytes lengths : List ℕ} {left room i : ℕ} (v : Planned bytes lengths left room i) where
@@ -76,7 +76,7 @@ module _ {bytes lengths : List ℕ} {left room i : ℕ} (v : Planned bytes lengt
       }
 
   -- the first PDU that doesn't fit shows that they can't be joined
-  pub planned_stop : i < length lengths → fits_in n left room ≡ false → Refused WrongLength ≡ planned_answer bytes lengths
+  pub planned_stop : i < length lengths → fits_in n left room ≡ false → Err WrongLength ≡ planned_answer bytes lengths
   planned_stop h e = refused_answer bytes lengths λ t.
       let j = joinable_facts bytes lengths t in
       let w = left_next lengths i h v.used v.taken v.rest in
@@ -95,7 +95,7 @@ module _ {bytes lengths : List ℕ} {left room i : ℕ} (v : Planned bytes lengt
     unfolding each_in_range
     all_in_range = v.rest.each ∙ ap each_in_range (drop_of_length-le lengths h)
 
-    planned_all : (length lengths ≡ 0 → ⊥) → left ≡ 0 → Length (1500 - room) ≡ planned_answer bytes lengths
+    planned_all : (length lengths ≡ 0 → ⊥) → left ≡ 0 → Ok (1500 - room) ≡ planned_answer bytes lengths
     unfolding planned_answer
     planned_all s e =
         let j = facts_joinable bytes lengths (record { some = omega arith; each = all_in_range; adds = omega (arith, all_used, v.lent); short = omega (arith, all_taken, v.free) }) in
@@ -103,14 +103,14 @@ module _ {bytes lengths : List ℕ} {left room i : ℕ} (v : Planned bytes lengt
         let same : 1500 - room ≡ suc (size lengths) = omega (arith, all_taken, v.free) in
         rw (j, l, same)
 
-    planned_left : (left ≡ 0 → ⊥) → Refused WrongLength ≡ planned_answer bytes lengths
+    planned_left : (left ≡ 0 → ⊥) → Err WrongLength ≡ planned_answer bytes lengths
     planned_left s = refused_answer bytes lengths λ t. omega (arith, (joinable_facts bytes lengths t).adds, all_used, v.lent)
 
 -- `Planned`, and what is answered once every PDU was met: facts of the loop, so that no proof names the test that ends it
 pub record Planning (bytes lengths : List ℕ) (left room i : ℕ) : Type 0 where
   pub planned : Planned bytes lengths left room i
-  pub whole : length lengths ≤ i → (length lengths ≡ 0 → ⊥) → left ≡ 0 → Length (1500 - room) ≡ planned_answer bytes lengths
-  pub part : length lengths ≤ i → (left ≡ 0 → ⊥) → Refused WrongLength ≡ planned_answer bytes lengths
+  pub whole : length lengths ≤ i → (length lengths ≡ 0 → ⊥) → left ≡ 0 → Ok (1500 - room) ≡ planned_answer bytes lengths
+  pub part : length lengths ≤ i → (left ≡ 0 → ⊥) → Err WrongLength ≡ planned_answer bytes lengths
 
 pub planning : {bytes lengths : List ℕ} → {left room i : ℕ} → Planned bytes lengths left room i → Planning bytes lengths left room i
 planning v = record { planned = v; whole = planned_all v; part = planned_left v }

@@ -1,10 +1,9 @@
 -- Joining PDUs (01, "Concatenation (8.5)"): bytes holds them one after the other, lengths says how long each is.
-use Rattle.std.specs.Prelude.{ℕ, ◌+◌, ◌/◌, ◌%◌, List, [], ◌∷◌, ◌++◌, Bool, true, false, length, take, drop, ltb, leb, eqb}
+use Rattle.std.specs.Prelude.{ℕ, ◌+◌, ◌/◌, ◌%◌, List, [], ◌∷◌, ◌++◌, Bool, true, false, length, take, drop, ltb, leb, eqb, Result, Ok, Err}
 use Rattle.base_layout.specs.Layout.{datagram_bound}
 use Rattle.base_lists.specs.Seq.{pick, put}
+use Rattle.base_numbers.specs.declared.Refusal.{Refusal}
 use Rattle.base_numbers.specs.declared.Refusal.TheVariants.{WrongSize, WrongLength}
-use Rattle.codec_joining.specs.declared.Joining.{Joining}
-use Rattle.codec_joining.specs.declared.Joining.TheVariants.{Length, Refused}
 
 -- 01: "Length is 7 bits, or 15 after a leading 1 .. a writer uses 7 bits to 127"
 unfoldable pub length_octets : ℕ → List ℕ
@@ -38,17 +37,17 @@ joinable bytes lengths =
     false)
 
 -- the length of the joined datagram, or number 11
-unfoldable pub planned_answer : List ℕ → List ℕ → Joining
-planned_answer bytes lengths = pick (joinable bytes lengths) (Length (length (joined_octets bytes lengths))) (Refused WrongLength)
+unfoldable pub planned_answer : List ℕ → List ℕ → Result ℕ Refusal
+planned_answer bytes lengths = pick (joinable bytes lengths) (Ok (length (joined_octets bytes lengths))) (Err WrongLength)
 
 -- 01: output "at least .. 1,500 for the PDU writer and the joiner", else number 1
-unfoldable pub joined_answer : List ℕ → List ℕ → List ℕ → Joining
-joined_answer bytes lengths out = pick (ltb (length out) datagram_bound) (Refused WrongSize) (planned_answer bytes lengths)
+unfoldable pub joined_answer : List ℕ → List ℕ → List ℕ → Result ℕ Refusal
+joined_answer bytes lengths out = pick (ltb (length out) datagram_bound) (Err WrongSize) (planned_answer bytes lengths)
 
 -- 01: "A refusal gives only its number and changes no lent byte"; else the datagram stands at the start of the output
-abbrev pub output_by : Joining → List ℕ → List ℕ → List ℕ → List ℕ
-output_by (Refused r) bytes lengths out = out
-output_by (Length n) bytes lengths out = put out 0 (joined_octets bytes lengths)
+abbrev pub output_by : Result ℕ Refusal → List ℕ → List ℕ → List ℕ → List ℕ
+output_by (Err r) bytes lengths out = out
+output_by (Ok n) bytes lengths out = put out 0 (joined_octets bytes lengths)
 
 -- 01: "Output after the PDU is unchanged"
 abbrev pub output_after : List ℕ → List ℕ → List ℕ → List ℕ

@@ -12,21 +12,8 @@ use base_numbers::Refusal;
 // What a datagram has room for after its first octet, which is 0.
 const ROOM: usize = base_layout::DATAGRAM_BOUND - 1;
 
-// The length of the joined datagram, or why there is none.
-#[derive(Clone, Copy)]
-pub enum Joining {
-    Length(usize),
-    Refused(Refusal),
-}
-
-// A length as a number of octets.
-fn count(n: u64) -> usize
-    ensures { result ≡ n }
-{
-    n as usize
-}
-
 // How many octets a length takes.
+#[tactic(auto, unfolding(crate::specs::Join::length_octets))]
 fn length_size(n: usize) -> usize
     ensures { result ≡ length (length_octets n) }
 {
@@ -34,45 +21,34 @@ fn length_size(n: usize) -> usize
 }
 
 // Whether a PDU of n octets can be the next one, where `left` octets are lent and the datagram has room for `room`.
+#[tactic(auto, unfolding(crate::specs::Fitting::fits_in))]
 fn fits(n: usize, left: usize, room: usize) -> bool
     ensures { result ≡ fits_in n left room }
 {
-    if n == 0 {
-        return false;
-    }
-    if left < n {
-        return false;
-    }
-    if room < n {
-        return false;
-    }
-    length_size(n) <= room - n
+    n != 0 && n <= left && n <= room && length_size(n) <= room - n
 }
 
-// What joining answers. It stops at the first PDU that can't be joined, so no sum passes its bound.
-fn joining_plan(bytes: &[u8], lengths: &[u64]) -> Joining
+// What joining answers: the length of the datagram. It stops at the first PDU that can't be joined, so no sum passes its bound.
+fn joining_plan(bytes: &[u8], lengths: &[u64]) -> Result<usize, Refusal>
     ensures { result ≡ planned_answer bytes.now lengths.now }
 {
-    if lengths.len() == 0 {
-        return Joining::Refused(Refusal::WrongLength);
+    if lengths.is_empty() {
+        return Err(Refusal::WrongLength);
     }
     let mut left = bytes.len();
     let mut room = ROOM;
-    let mut i = 0;
-    while i < lengths.len() {
-        let n = count(lengths[i]);
-        if fits(n, left, room) {
-            left = left - n;
-            room = room - n - length_size(n);
-            i += 1;
-        } else {
-            return Joining::Refused(Refusal::WrongLength);
+    for &length in lengths {
+        let n = length as usize;
+        if !fits(n, left, room) {
+            return Err(Refusal::WrongLength);
         }
+        left -= n;
+        room = room - n - length_size(n);
     }
     if left == 0 {
-        Joining::Length(base_layout::DATAGRAM_BOUND - room)
+        Ok(base_layout::DATAGRAM_BOUND - room)
     } else {
-        Joining::Refused(Refusal::WrongLength)
+        Err(Refusal::WrongLength)
     }
 }
 
@@ -93,6 +69,7 @@ fn put_length(out: &mut [u8], at: usize, n: usize) -> usize
 }
 
 // Stores the PDU of n octets of bytes from `from` on, after its length, and gives the place after it.
+#[tactic(auto, using(base_lists::proofs::StoresAndParts::put_append))]
 fn put_part(out: &mut [u8], at: usize, bytes: &[u8], from: usize, n: usize) -> usize
     requires { (n ≤ datagram_bound) × (from + n ≤ length bytes.now) × (at + length (length_octets n) + n ≤ length out.old) }
     ensures { (result ≡ at + length (length_octets n) + n) × (out.new ≡ put out.old at (length_octets n ++ part bytes.now from n)) }
@@ -110,28 +87,22 @@ fn write(bytes: &[u8], lengths: &[u64], out: &mut [u8])
     out[0] = 0;
     let mut at = 1;
     let mut from = 0;
-    let mut i = 0;
-    while i < lengths.len() {
-        let n = count(lengths[i]);
+    for &length in lengths {
+        let n = length as usize;
         at = put_part(&mut *out, at, bytes, from, n);
-        from = from + n;
-        i += 1;
+        from += n;
     }
 }
 
 // The PDUs that bytes holds, of these lengths, as one datagram at the start of out.
 #[tactic(auto, using(crate::proofs::Answers::too_small, crate::proofs::Answers::large_enough, crate::proofs::Answers::accepted), unfolding(crate::specs::Join::output_after))]
-pub fn join(bytes: &[u8], lengths: &[u64], out: &mut [u8]) -> Joining
+pub fn join(bytes: &[u8], lengths: &[u64], out: &mut [u8]) -> Result<usize, Refusal>
     ensures { (result ≡ joined_answer bytes.now lengths.now out.old) × (out.new ≡ output_after bytes.now lengths.now out.old) }
 {
     if out.len() < base_layout::DATAGRAM_BOUND {
-        return Joining::Refused(Refusal::WrongSize);
+        return Err(Refusal::WrongSize);
     }
-    match joining_plan(bytes, lengths) {
-        Joining::Refused(r) => Joining::Refused(r),
-        Joining::Length(n) => {
-            write(bytes, lengths, out);
-            Joining::Length(n)
-        }
-    }
+    let n = joining_plan(bytes, lengths)?;
+    write(bytes, lengths, out);
+    Ok(n)
 }

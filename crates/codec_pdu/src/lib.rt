@@ -82,17 +82,7 @@ pub struct Brief {
 pub fn sound(kind: Kind) -> bool
     ensures { result ≡ sound_of kind }
 {
-    match kind {
-        Kind::Invoke { .. } => true,
-        Kind::Result { .. } => true,
-        Kind::Ack { .. } => true,
-        Kind::Abort { .. } => true,
-        Kind::SegInvoke { .. } => true,
-        Kind::SegResult { .. } => true,
-        Kind::Nack { .. } => true,
-        Kind::Wrong(_) => false,
-        Kind::Refused(_) => false,
-    }
+    !matches!(kind, Kind::Wrong(_) | Kind::Refused(_))
 }
 
 // Whether nothing may follow the items.
@@ -100,25 +90,19 @@ pub fn sound(kind: Kind) -> bool
 pub fn bare(kind: Kind) -> bool
     ensures { result ≡ bare_of kind }
 {
-    match kind {
-        Kind::Invoke { .. } => false,
-        Kind::Result { .. } => false,
-        Kind::Ack { .. } => true,
-        Kind::Abort { .. } => true,
-        Kind::SegInvoke { .. } => false,
-        Kind::SegResult { .. } => false,
-        Kind::Nack { .. } => true,
-        Kind::Wrong(_) => false,
-        Kind::Refused(_) => false,
-    }
+    matches!(
+        kind,
+        Kind::Ack { .. } | Kind::Abort { .. } | Kind::Nack { .. }
+    )
 }
 
 // The brief of no PDU, for the reason that the kind says.
+#[tactic(auto, unfolding(crate::specs::Pdu::blank_pdu, crate::specs::Brief::brief_of, crate::specs::Pdu::info_of, crate::specs::Pdu::unknown_of, codec_items::specs::Info::info_from, codec_items::specs::Unknown::unknown_from, codec_items::specs::Info::first_from))]
 pub fn blank_brief(kind: Kind) -> Brief
     ensures { result ≡ brief_of (blank_pdu kind) }
 {
     Brief {
-        kind: kind,
+        kind,
         tid: RcvTid(0),
         info: Info { start: 0, len: 0 },
         start: 0,

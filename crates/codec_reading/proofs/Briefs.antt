@@ -10,10 +10,10 @@ use lib.ListN.{length, get_or, replicate}
 use lib.Dec.{ltb, leb, eqb}
 use Rattle.base_lists.specs.Seq.{pick}
 use Rattle.base_lists.proofs.StoresAndParts.{true_false}
+use Rattle.base_numbers.specs.declared.Malformed.{Malformed}
 use Rattle.base_numbers.specs.declared.Malformed.TheVariants.{D1, D2, D7}
-use Rattle.base_numbers.specs.declared.Verdict.TheVariants.{Sound}
-use Rattle.codec_items.specs.declared.Items.{Items}
-use Rattle.codec_items.specs.Items.{no_item, no_items_is, walk_from}
+use Rattle.std.specs.Prelude.{Result, Ok, Err, IfOk}
+use Rattle.codec_items.specs.Items.{Items, no_item, no_items_is, walk_from}
 use Rattle.codec_items.specs.Info.{first_from, info_from}
 use Rattle.codec_items.specs.Unknown.{unknown_from}
 use Rattle.codec_items.specs.Found.{end_from, items_from, info_in, unknown_in}
@@ -25,6 +25,7 @@ use Rattle.codec_pdu.specs.declared.Brief.{Brief}
 use Rattle.codec_pdu.specs.declared.Kind.TheVariants.{Wrong}
 use Rattle.codec_reading.specs.declared.Head.{Head}
 use Rattle.codec_reading.specs.Read.{type_of, bad_head, good_head, long_head, head_of, whole, finished, items_after, after_head, pdu_of}
+use Rattle.codec_reading.proofs.Inside.{head_inside}
 use Rattle.codec_reading.specs.Brief.{end_after_is, place_after, places_after, whole_brief, wrong_brief, ended_brief}
 
 -- a sound header has three octets or more
@@ -54,13 +55,17 @@ module _ (s : List ℕ) where
       go false false false false true e = omega arith
       go false false false false false e = long_far e
 
-  pub after_inside : (h : Head) → 1 ≤ length s → h.end ≤ length s → end_after_is s h ≤ length s
+  pub after_inside : (h : Head) → h ≡ head_of s → (r : Result ℕ Malformed) → r ≡ end_after_is s h → IfOk r (λ (n : ℕ). n ≤ length s)
   unfolding end_after_is
-  after_inside h l i = go h.con
+  after_inside h e r q = by r q h.con
     where
-      go : (b : Bool) → pick b (end_from 16 s h.end) h.end ≤ length s
-      go true = end_inside s 16 h.end l
-      go false = i
+      by : (r : Result ℕ Malformed) → r ≡ pick h.con (end_from 16 s h.end) (Ok h.end) → Bool → IfOk r (λ (n : ℕ). n ≤ length s)
+      by (Err d) q b = tt
+      by (Ok n) q b = go h.con q
+        where
+          go : (b : Bool) → Ok n ≡ pick b (end_from 16 s h.end) (Ok h.end) → n ≤ length s
+          go true q = end_inside s 16 h.end n (sym q)
+          go false q = let z : n ≡ h.end = cc in let w : h.end ≤ length s = rw e (head_inside s) in omega (arith, z, w)
 
   module _ (h : Head) where
     -- the brief of a PDU whose user data of len octets starts at `start`
@@ -68,11 +73,11 @@ module _ (s : List ℕ) where
     whole_at start len = record { kind = h.kind; tid = h.tid; info = info_in s (place_after s h InfoItem); start = start; len = len; unknown = unknown_in s (place_after s h UnknownItem) }
 
     -- items that end well
-    ends_well : (i : Items) (end : ℕ) → 2 ≤ end → i.verdict ≡ Sound → i.end ≡ end → info_from (pick (leb i.count 16) i.count 16) i.list 0 ≡ info_in s (place_after s h InfoItem)
+    ends_well : (i : Items) (end : ℕ) → 2 ≤ end → i.verdict ≡ Ok tt → i.end ≡ end → info_from (pick (leb i.count 16) i.count 16) i.list 0 ≡ info_in s (place_after s h InfoItem)
         → unknown_from (pick (leb i.count 16) i.count 16) i.list 0 ≡ unknown_in s (place_after s h UnknownItem)
-        → ended_brief s h (places_after s h) end ≡ brief_of (finished s h i)
+        → ended_brief s h (places_after s h) (Ok end) ≡ brief_of (finished s h i)
     unfolding ended_brief finished places_after whole_brief brief_of info_of unknown_of
-    ends_well i end l v e q u = rw (ne_eqb end 0 (λ (z : end ≡ 0). absurd (omega arith)), ne_eqb end 1 (λ (z : end ≡ 1). absurd (omega arith)), v, e) (go (bare_of h.kind) (length s - end))
+    ends_well i end l v e q u = rw (v, e) (go (bare_of h.kind) (length s - end))
       where
         go : (a : Bool) (left : ℕ) → pick (pick a (ltb 0 left) false) (wrong_brief (Wrong D7)) (whole_at (pick a 0 end) left) ≡ brief_of (pick a (pick (eqb left 0) (whole h i 0 0) (blank_pdu (Wrong D7))) (whole h i end left))
         go true zero = rw (q, u)
@@ -80,23 +85,25 @@ module _ (s : List ℕ) where
         go false left = rw (q, u)
 
     pub ended_brief_holds : 3 ≤ h.end → ended_brief s h (places_after s h) (end_after_is s h) ≡ brief_of (finished s h (items_after s h))
-    unfolding end_after_is items_after place_after info_in unknown_in ended_brief finished info_from unknown_from first_from
+    unfolding end_after_is items_after place_after ended_brief finished info_from unknown_from first_from
     ended_brief_holds l = go h.con refl
       where
-        by : h.con ≡ true → (end : ℕ) (i : Items) → Finds 16 (replicate 16 no_item) (items_from 16 s h.end) end i → ended_brief s h (places_after s h) end ≡ brief_of (finished s h i)
-        by p end i (inl (e, w)) = rw (e, w)
-        by p end i (inr (inl (e, w))) = rw (e, w)
-        by p end i (inr (inr w)) = ends_well i end w.far w.sound w.ends (rw p (info_found s h.end (omega arith) end i w)) (rw p (unknown_found s h.end (omega arith) end i w))
+        by : h.con ≡ true → (end : Result ℕ Malformed) (i : Items) → Finds 16 (replicate 16 no_item) (items_from 16 s h.end) end i → ended_brief s h (places_after s h) end ≡ brief_of (finished s h i)
+        by p end i (inl (d, e, w)) = rw (e, w)
+        by p end i (inr (n, e, w)) = rw e (ends_well i n w.far w.sound w.ends (rw p (info_found s h.end n i w)) (rw p (unknown_found s h.end n i w)))
 
-        go : (b : Bool) → h.con ≡ b → ended_brief s h (places_after s h) (pick b (end_from 16 s h.end) h.end) ≡ brief_of (finished s h (pick b (walk_from 16 s h.end (replicate 16 no_item)) (no_items_is Sound h.end)))
+        go : (b : Bool) → h.con ≡ b → ended_brief s h (places_after s h) (pick b (end_from 16 s h.end) (Ok h.end)) ≡ brief_of (finished s h (pick b (walk_from 16 s h.end (replicate 16 no_item)) (no_items_is (Ok tt) h.end)))
         go true p = by p _ _ (finds s 16 h.end (replicate 16 no_item) (omega arith) (omega arith))
-        go false p = ends_well (no_items_is Sound h.end) h.end (omega arith) refl refl (rw p) (rw p)
+        go false p = ends_well (no_items_is (Ok tt) h.end) h.end (omega arith) refl refl (rw p) (rw p)
 
-  module _ (some : 1 ≤ length s) (few : length s ≤ 1500) where
-    pub brief_sound : sound_of (head_of s).kind ≡ true → ended_brief s (head_of s) (places_after s (head_of s)) (end_after_is s (head_of s)) ≡ brief_of (pdu_of s)
+  module _ (h : Head) (e : h ≡ head_of s) (some : 1 ≤ length s) (few : length s ≤ 1500) where
+    pub brief_sound : sound_of h.kind ≡ true → ended_brief s h (places_after s h) (end_after_is s h) ≡ brief_of (pdu_of s)
     unfolding pdu_of after_head
-    brief_sound k = rw (ne_eqb (length s) 0 (λ (z : length s ≡ 0). absurd (omega arith)), le-ltb 1500 (length s) few, k) (ended_brief_holds (head_of s) (head_far k))
+    brief_sound k = rw (ne_eqb (length s) 0 (λ (z : length s ≡ 0). absurd (omega arith)), le-ltb 1500 (length s) few, ← e, k) (ended_brief_holds h (far head_far))
+      where
+        far : Far (head_of s) → 3 ≤ h.end
+        far f = let g : Far h = rw e f in g k
 
-    pub brief_unsound : sound_of (head_of s).kind ≡ false → brief_of (blank_pdu (head_of s).kind) ≡ brief_of (pdu_of s)
+    pub brief_unsound : sound_of h.kind ≡ false → brief_of (blank_pdu h.kind) ≡ brief_of (pdu_of s)
     unfolding pdu_of after_head
-    brief_unsound k = rw (ne_eqb (length s) 0 (λ (z : length s ≡ 0). absurd (omega arith)), le-ltb 1500 (length s) few, k)
+    brief_unsound k = rw (ne_eqb (length s) 0 (λ (z : length s ≡ 0). absurd (omega arith)), le-ltb 1500 (length s) few, ← e, k)

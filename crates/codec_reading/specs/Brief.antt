@@ -1,7 +1,8 @@
 -- What the engine takes of a PDU, read without a list of its items.
-use Rattle.std.specs.Prelude.{ℕ, ◌-◌, List, Bool, false, length, ltb, eqb}
+use Rattle.std.specs.Prelude.{ℕ, ◌-◌, List, Bool, false, length, ltb, eqb, Option, Some, None, Result, Ok, Err}
 use Rattle.base_lists.specs.Seq.{pick}
-use Rattle.base_numbers.specs.declared.Malformed.TheVariants.{D3, D4, D7}
+use Rattle.base_numbers.specs.declared.Malformed.{Malformed}
+use Rattle.base_numbers.specs.declared.Malformed.TheVariants.{D7}
 use Rattle.codec_items.specs.Found.{end_from, place_from, info_in, unknown_in}
 use Rattle.codec_items.specs.declared.Sought.{Sought}
 use Rattle.codec_items.specs.declared.Sought.TheVariants.{InfoItem, UnknownItem}
@@ -14,13 +15,13 @@ use Rattle.codec_reading.specs.declared.Head.{Head}
 use Rattle.codec_reading.specs.declared.Places.{Places}
 use Rattle.codec_reading.specs.Read.{head_of}
 
--- the place after the header and its items; 0 for D3 and 1 for D4
-unfoldable pub end_after_is : List ℕ → Head → ℕ
-end_after_is s h = pick h.con (end_from 16 s h.end) h.end
+-- the place after the header and its items; or how these are malformed
+unfoldable pub end_after_is : List ℕ → Head → Result ℕ Malformed
+end_after_is s h = pick h.con (end_from 16 s h.end) (Ok h.end)
 
--- the place of the first item sought after the header; 0 where there is none
-unfoldable pub place_after : List ℕ → Head → Sought → ℕ
-place_after s h sought = pick h.con (place_from sought 16 s h.end) 0
+-- the place of the first item sought after the header
+unfoldable pub place_after : List ℕ → Head → Sought → Option ℕ
+place_after s h sought = pick h.con (place_from sought 16 s h.end) None
 
 -- the places of the first Info item and of the first item that isn't known
 unfoldable pub places_after : List ℕ → Head → Places
@@ -54,9 +55,10 @@ abbrev pub rest_brief : List ℕ → Head → Places → ℕ → Brief
 rest_brief s h at end = pick (bytes_left h.kind (length s - end)) (wrong_brief (Wrong D7)) (whole_brief s h at end)
 
 -- what the place after the items leaves: a fault of theirs, else the user data
-unfoldable pub ended_brief : List ℕ → Head → Places → ℕ → Brief
-ended_brief s h at end = pick (eqb end 0) (wrong_brief (Wrong D3)) (pick (eqb end 1) (wrong_brief (Wrong D4)) (rest_brief s h at end))
+unfoldable pub ended_brief : List ℕ → Head → Places → Result ℕ Malformed → Brief
+ended_brief s h at (Err d) = wrong_brief (Wrong d)
+ended_brief s h at (Ok end) = rest_brief s h at end
 
--- the place of the first item; 0 where no item follows the header
-unfoldable pub items_at : List ℕ → ℕ
-items_at s = pick (eqb (length s) 0) 0 (pick (head_of s).con (head_of s).end 0)
+-- the place of the first item
+unfoldable pub items_at : List ℕ → Option ℕ
+items_at s = pick (eqb (length s) 0) None (pick (head_of s).con (Some (head_of s).end) None)

@@ -1,15 +1,12 @@
 -- Reading a PDU (01, "Bytes on the air"; 002, 8.2 and 8.3).
-use Rattle.std.specs.Prelude.{ℕ, ◌+◌, ◌-◌, ◌/◌, ◌%◌, List, Bool, false, length, get_or, replicate, ltb, leb, eqb}
+use Rattle.std.specs.Prelude.{ℕ, ◌+◌, ◌-◌, ◌/◌, ◌%◌, List, Bool, false, length, get_or, replicate, ltb, leb, eqb, Ok, Err}
 use Rattle.base_layout.specs.Layout.{datagram_bound}
 use Rattle.base_lists.specs.Seq.{pick}
-use Rattle.base_numbers.specs.declared.Malformed.{Malformed}
 use Rattle.base_numbers.specs.declared.Malformed.TheVariants.{D1, D2, D5, D6, D7}
+use Rattle.base_numbers.specs.declared.Malformed.{Malformed}
 use Rattle.base_numbers.specs.declared.Refusal.TheVariants.{WrongLength}
-use Rattle.base_numbers.specs.declared.Verdict.{Verdict}
-use Rattle.base_numbers.specs.declared.Verdict.TheVariants.{Sound, Bad}
 use Rattle.base_tids.specs.Tids.{received_tid}
-use Rattle.codec_items.specs.Items.{walk_from, no_item, no_items_is}
-use Rattle.codec_items.specs.declared.Items.{Items}
+use Rattle.codec_items.specs.Items.{Verdict, Items, walk_from, no_item, no_items_is}
 use Rattle.codec_pdu.specs.Pdu.{sound_of, bare_of, blank_pdu}
 use Rattle.codec_pdu.specs.declared.Kind.{Kind}
 use Rattle.codec_pdu.specs.declared.Kind.TheVariants.{Invoke, Result, Ack, Abort, SegInvoke, SegResult, Nack, Wrong, Refused}
@@ -74,8 +71,8 @@ whole h i start len = record { kind = h.kind; tid = h.tid.0; count = i.count; li
 
 -- what the items' verdict leaves: a fault of theirs; else the user data, or D7 for bytes left after Ack, Abort or Nack
 abbrev pub finish_by : Verdict → List ℕ → Head → Items → Pdu
-finish_by (Bad d) s h i = blank_pdu (Wrong d)
-finish_by Sound s h i =
+finish_by (Err d) s h i = blank_pdu (Wrong d)
+finish_by (Ok tt) s h i =
     pick (bare_of h.kind)
     (pick (eqb (length s - i.end) 0) (whole h i 0 0) (blank_pdu (Wrong D7)))
     (whole h i i.end (length s - i.end))
@@ -85,7 +82,7 @@ finished s h i = finish_by i.verdict s h i
 
 -- 01: "If CON is set, information items follow", at most 16
 unfoldable pub items_after : List ℕ → Head → Items
-items_after s h = pick h.con (walk_from 16 s h.end (replicate 16 no_item)) (no_items_is Sound h.end)
+items_after s h = pick h.con (walk_from 16 s h.end (replicate 16 no_item)) (no_items_is (Ok tt) h.end)
 
 -- what follows the fixed header
 unfoldable pub after_head : List ℕ → Head → Pdu

@@ -73,6 +73,7 @@ pub fn kind_said(words: &[u64]) -> Kind
 }
 
 // The item k that its four words say.
+#[tactic(auto, unfolding(crate::specs::Said::item_said))]
 pub fn item_said(words: &[u64], k: usize) -> Item
     requires { (88 ≤ length words.now) × (k < 16) }
     ensures { result ≡ item_said words.now k }

@@ -6,11 +6,11 @@ use mathlib.Core.Path.{◌≡◌, refl, sym, ◌∙◌}
 use mathlib.Core.List.{List, [], ◌∷◌}
 use mathlib.Core.Bool.{Bool, true, false}
 use mathlib.Core.Logic.{◌↔◌}
+use Rattle.std.specs.Prelude.{Option, None}
 use lib.ListN.{length, get_or}
 use lib.Dec.{ltb}
-use Rattle.codec_separation.specs.declared.Found.{Found}
-use Rattle.codec_separation.specs.declared.Found.TheVariants.{Cut}
-use Rattle.codec_separation.specs.Separate.{Part, Split, refused, parts, part_at, before, and_then, whole, parts_of}
+use Rattle.codec_separation.specs.Separate.{Split, refused, parts, part_at, before, and_then, whole, parts_of}
+use Rattle.codec_separation.specs.declared.Part.{Part}
 use Rattle.codec_separation.specs.Faults.{Reached, first, next, Faulty, empty, over, no_pdu_holds, zero_length, overrun, cut_length}
 use Rattle.codec_separation.proofs.Looks.{Look, cut, none, more, there, announced_at, look, found_there, found_zero, found_over, found_cut}
 use Rattle.codec_separation.proofs.Steps.{from, from_end, from_step}
@@ -28,7 +28,7 @@ module _ (d : List ℕ) where
   fault_from z zero at h r e = parts_refused [] (sym (from_end d at (omega arith)) ∙ e)
   fault_from z (suc m) at h r e = go (fault_from z m) (ltb at (length d)) refl
     where
-      look_on : ((at : ℕ) → length d ≤ at + m → Reached d at → from d at ≡ refused → Faulty d) → (g : Found) → Look d at g → and_then (from d) g ≡ refused → Faulty d
+      look_on : ((at : ℕ) → length d ≤ at + m → Reached d at → from d at ≡ refused → Faulty d) → (g : Option Part) → Look d at g → and_then (from d) g ≡ refused → Faulty d
       look_on ih g (cut a b) e = cut_length z r a b
       look_on ih g (none a) e = zero_length z r a
       look_on ih g (more a b) e = overrun z r a b
@@ -46,7 +46,7 @@ module _ (d : List ℕ) where
   reached_back (next {at = at} {start = s} {len = l} r a h f) e =
       reached_back r (from_step d at (omega (arith, announced_at a)) ∙ rw (found_there a h f, e))
 
-  stopped : {at : ℕ} → Reached d at → at < length d → part_at d at ≡ Cut → from d 1 ≡ refused
+  stopped : {at : ℕ} → Reached d at → at < length d → part_at d at ≡ None → from d 1 ≡ refused
   stopped {at} r h e = reached_back r (from_step d at h ∙ rw e)
 
   -- law: a datagram gets 11 exactly when its length is outside 1 to 1,500, or it has no PDU, or a zero length, an overrun or a cut length is reached

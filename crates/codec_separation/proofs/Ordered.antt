@@ -5,10 +5,12 @@ use borrow.Author.Tests.{ltb-true, ltb-false}
 use mathlib.Core.Path.{◌≡◌, refl}
 use mathlib.Core.List.{List, [], ◌∷◌}
 use mathlib.Core.Bool.{Bool, true, false}
+use Rattle.std.specs.Prelude.{Ok}
 use lib.ListN.{length, get_or}
 use lib.Dec.{ltb}
-use Rattle.codec_separation.specs.Separate.{Part, Split, refused, parts, whole, no_part, parts_of, answer_at}
-use Rattle.codec_separation.specs.declared.Separation.TheVariants.{Parts}
+use Rattle.codec_separation.specs.Separate.{Split, refused, parts, whole, no_part, parts_of, answer_at}
+use Rattle.codec_separation.specs.declared.Part.{Part}
+use Rattle.codec_separation.specs.declared.Parts.{Parts}
 use Rattle.codec_separation.specs.Order.{Repeated, Follows, InOrder}
 use Rattle.codec_separation.proofs.Looks.{announced_at}
 use Rattle.codec_separation.proofs.Steps.{found_inside, from}
@@ -22,7 +24,7 @@ from_repeated d [] at b e = go (ltb at (length d)) refl
     go false q = omega (arith, ltb-false at (length d) q)
 from_repeated d (p ∷ ps) at b e =
     let f = from_first d at p ps e in
-    let i = found_inside d at p.start p.len f.more f.found in
+    let i = found_inside d at p f.more f.found in
     (i.said, i.some, i.fits, from_repeated d ps (p.start + p.len) i.fits f.rest)
 
 repeated_in_order : (d : List ℕ) (ps : List Part) (at : ℕ) → Repeated d at ps → Follows at ps × InOrder d ps
@@ -57,12 +59,11 @@ nth_inside d (p ∷ ps) zero o = o.1
 nth_inside d (p ∷ ps) (suc k) o = nth_inside d ps k o.3
 
 -- the part that is answered lies within the datagram
-pub answer_inside : (d : List ℕ) (k n s l : ℕ) → answer_at (parts_of d) k ≡ Parts n s l → s + l ≤ length d
-answer_inside d k n s l e = go (parts_of d) refl e
+pub answer_inside : (d : List ℕ) (k : ℕ) (seen : Parts) → answer_at (parts_of d) k ≡ Ok seen → seen.part.start + seen.part.len ≤ length d
+answer_inside d k seen e = go (parts_of d) refl e
   where
-    go : (x : Split) → parts_of d ≡ x → answer_at x k ≡ Parts n s l → s + l ≤ length d
-    go refused q e = let z : ◌≡◌ {A = ℕ} 0 1 = cc in absurd (omega arith)
+    go : (x : Split) → parts_of d ≡ x → answer_at x k ≡ Ok seen → seen.part.start + seen.part.len ≤ length d
+    go refused q e = absurd cc
     go (parts ps) q e =
-        let a : (get_or ps k no_part).start ≡ s = cc in
-        let b : (get_or ps k no_part).len ≡ l = cc in
-        rw (← a, ← b) (nth_inside d ps k (parts_in_order d ps q))
+        let same : get_or ps k no_part ≡ seen.part = cc in
+        rw (← same) (nth_inside d ps k (parts_in_order d ps q))

@@ -6,11 +6,11 @@ use borrow.Author.Tests.{ltb-true, lt-ltb, le-ltb}
 use mathlib.Core.Path.{◌≡◌, refl, ◌∙◌}
 use mathlib.Core.List.{List, []}
 use mathlib.Core.Bool.{Bool, true, false}
+use Rattle.std.specs.Prelude.{Option, Some, None}
 use lib.ListN.{length}
 use lib.Dec.{ltb}
 use Rattle.base_lists.specs.Seq.{pick}
-use Rattle.codec_separation.specs.declared.Found.{Found}
-use Rattle.codec_separation.specs.declared.Found.TheVariants.{One, Cut}
+use Rattle.codec_separation.specs.declared.Part.{Part}
 use Rattle.codec_separation.specs.Separate.{Split, parts, part_at, and_then, parts_from}
 use Rattle.codec_separation.specs.Faults.{Announced}
 use Rattle.codec_separation.proofs.Looks.{Look, cut, none, more, there, announced_at, look}
@@ -22,20 +22,16 @@ pub record Inside (d : List ℕ) (at start len : ℕ) : Type 0 where
   pub some : 1 ≤ len
   pub fits : start + len ≤ length d
 
-pub found_inside : (d : List ℕ) (at s l : ℕ) → at < length d → part_at d at ≡ One s l → Inside d at s l
-found_inside d at s l h e = go (part_at d at) (look d at h) e
+pub found_inside : (d : List ℕ) (at : ℕ) (p : Part) → at < length d → part_at d at ≡ Some p → Inside d at p.start p.len
+found_inside d at p h e = go (part_at d at) (look d at h) e
   where
-    cut_one : Cut ≡ One s l → Inside d at s l
-    cut_one e = let z : ◌≡◌ {A = ℕ} 0 1 = cc in absurd (omega arith)
-
-    go : (g : Found) → Look d at g → g ≡ One s l → Inside d at s l
-    go g (cut h b) e = cut_one e
-    go g (none a) e = cut_one e
-    go g (more a h) e = cut_one e
+    go : (g : Option Part) → Look d at g → g ≡ Some p → Inside d at p.start p.len
+    go g (cut h b) e = absurd cc
+    go g (none a) e = absurd cc
+    go g (more a h) e = absurd cc
     go g (there {s = x} {l = y} a h f) e =
-        let p : x ≡ s = cc in
-        let q : y ≡ l = cc in
-        record { said = rw (← p, ← q) a; behind = omega (arith, (announced_at a).0); some = omega arith; fits = omega arith }
+        let q : record { start = x; len = y } ≡ p = cc in
+        rw (← q) (record { said = a; behind = (announced_at a).0; some = h; fits = f })
 
 -- the parts from `at` to the end
 abbrev pub from : List ℕ → ℕ → Split
@@ -49,13 +45,13 @@ enough d zero (suc n) at p q = rw (le-ltb at (length d) (omega arith))
 enough d (suc m) zero at p q = rw (le-ltb at (length d) (omega arith))
 enough d (suc m) (suc n) at p q = go (enough d m n) (ltb at (length d)) refl (part_at d at) refl
   where
-    go : ((at : ℕ) → length d ≤ at + m → length d ≤ at + n → parts_from m d at ≡ parts_from n d at) → (b : Bool) → ltb at (length d) ≡ b → (g : Found) → part_at d at ≡ g
+    go : ((at : ℕ) → length d ≤ at + m → length d ≤ at + n → parts_from m d at ≡ parts_from n d at) → (b : Bool) → ltb at (length d) ≡ b → (g : Option Part) → part_at d at ≡ g
         → pick b (and_then (parts_from m d) g) (parts []) ≡ pick b (and_then (parts_from n d) g) (parts [])
     go ih false t g e = refl
-    go ih true t Cut e = refl
-    go ih true t (One s l) e =
-        let i = found_inside d at s l (ltb-true at (length d) t) e in
-        rw (ih (s + l) (omega arith) (omega arith))
+    go ih true t None e = refl
+    go ih true t (Some found) e =
+        let i = found_inside d at found (ltb-true at (length d) t) e in
+        rw (ih (found.start + found.len) (omega arith) (omega arith))
 
 module _ (d : List ℕ) (at : ℕ) where
   no_turn : parts_from 0 d at ≡ parts []

@@ -5,12 +5,12 @@ use borrow.Author.Tests.{ltb-true, ltb-false, eqb-true, eqb-false, le-ltb, eq-eq
 use mathlib.Core.Path.{◌≡◌, refl, sym, ap, ◌∙◌}
 use mathlib.Core.List.{List, [], ◌∷◌}
 use mathlib.Core.Bool.{Bool, true, false}
+use Rattle.std.specs.Prelude.{Option, Some, None}
 use lib.ListN.{length, get_or}
 use lib.Dec.{ltb, eqb}
 use Rattle.base_lists.specs.Seq.{pick}
-use Rattle.codec_separation.specs.declared.Found.{Found}
-use Rattle.codec_separation.specs.declared.Found.TheVariants.{One, Cut}
-use Rattle.codec_separation.specs.Separate.{Part, Split, refused, parts, part_at, before, and_then, whole, parts_of}
+use Rattle.codec_separation.specs.Separate.{Split, refused, parts, part_at, before, and_then, whole, parts_of}
+use Rattle.codec_separation.specs.declared.Part.{Part}
 use Rattle.codec_separation.proofs.Steps.{from, from_end, from_step}
 
 -- empty, too long, one PDU, octet 0 alone, or octet 0 and a list
@@ -53,23 +53,23 @@ none_some p ps e = let z : ◌≡◌ {A = ℕ} 0 1 = cc in absurd (omega arith)
 -- the first of the parts from a place
 pub record First (d : List ℕ) (at : ℕ) (p : Part) (ps : List Part) : Type 0 where
   pub more : at < length d
-  pub found : part_at d at ≡ One p.start p.len
+  pub found : part_at d at ≡ Some p
   pub rest : from d (p.start + p.len) ≡ parts ps
 
 module _ (d : List ℕ) (at : ℕ) (p : Part) (ps : List Part) where
   pub from_first : from d at ≡ parts (p ∷ ps) → First d at p ps
   from_first e = go (ltb at (length d)) refl
     where
-      third : (h : at < length d) (s l : ℕ) → part_at d at ≡ One s l → (x : Split) → from d (s + l) ≡ x → before (record { start = s; len = l }) x ≡ parts (p ∷ ps) → First d at p ps
-      third h s l g refused f e = refused_parts (p ∷ ps) e
-      third h s l g (parts qs) f e =
-          let same : record { start = s; len = l } ≡ p = cc in
+      third : (h : at < length d) (q : Part) → part_at d at ≡ Some q → (x : Split) → from d (q.start + q.len) ≡ x → before q x ≡ parts (p ∷ ps) → First d at p ps
+      third h q g refused f e = refused_parts (p ∷ ps) e
+      third h q g (parts qs) f e =
+          let same : q ≡ p = cc in
           let others : qs ≡ ps = cc in
           rw (← same) (record { more = h; found = g; rest = f ∙ ap parts others })
 
-      second : (h : at < length d) (g : Found) → part_at d at ≡ g → and_then (from d) g ≡ parts (p ∷ ps) → First d at p ps
-      second h Cut g e = refused_parts (p ∷ ps) e
-      second h (One s l) g e = third h s l g (from d (s + l)) refl e
+      second : (h : at < length d) (g : Option Part) → part_at d at ≡ g → and_then (from d) g ≡ parts (p ∷ ps) → First d at p ps
+      second h None g e = refused_parts (p ∷ ps) e
+      second h (Some q) g e = third h q g (from d (q.start + q.len)) refl e
 
       go : (b : Bool) → ltb at (length d) ≡ b → First d at p ps
       go true q = let h = ltb-true at (length d) q in second h (part_at d at) refl (sym (from_step d at h) ∙ e)
@@ -83,6 +83,6 @@ from_some d at h e = second (part_at d at) (sym (from_step d at h) ∙ e)
     third p refused e = refused_parts [] e
     third p (parts ps) e = none_some p ps (sym e)
 
-    second : (g : Found) → and_then (from d) g ≡ parts [] → ⊥
-    second Cut e = refused_parts [] e
-    second (One s l) e = third (record { start = s; len = l }) (from d (s + l)) e
+    second : (g : Option Part) → and_then (from d) g ≡ parts [] → ⊥
+    second None e = refused_parts [] e
+    second (Some p) e = third p (from d (p.start + p.len)) e

@@ -1,6 +1,6 @@
 -- What the parts of a datagram are to it and to each other.
 use Rattle.std.specs.Prelude.{ℕ, ◌+◌, ◌<◌, ◌≤◌, ◌≡◌, List, [], ◌∷◌, length}
-use Rattle.codec_separation.specs.Separate.{Part}
+use Rattle.codec_separation.specs.declared.Part.{Part}
 use Rattle.codec_separation.specs.Faults.{Announced}
 
 -- 01: "a length and a PDU, repeated": from `at` to the end of d there is nothing but these parts, each right after the length that announces it

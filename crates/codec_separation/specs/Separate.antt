@@ -1,21 +1,15 @@
 -- Separating a datagram (01, "Concatenation (8.5)").
-use Rattle.std.specs.Prelude.{ℕ, zero, suc, ◌+◌, ◌-◌, ◌*◌, ◌%◌, List, [], ◌∷◌, length, get_or, ltb, leb, eqb}
+use Rattle.std.specs.Prelude.{ℕ, zero, suc, ◌+◌, ◌-◌, ◌*◌, ◌%◌, List, [], ◌∷◌, length, get_or, ltb, leb, eqb, Option, Some, None, Result, Ok, Err}
 use Rattle.base_layout.specs.Layout.{datagram_bound}
 use Rattle.base_lists.specs.Seq.{pick, part}
+use Rattle.base_numbers.specs.declared.Refusal.{Refusal}
 use Rattle.base_numbers.specs.declared.Refusal.TheVariants.{WrongLength}
 use Rattle.codec_pdu.specs.Pdu.{blank_pdu}
-use Rattle.codec_pdu.specs.declared.Kind.TheVariants.{Refused as NoPdu}
+use Rattle.codec_pdu.specs.declared.Kind.TheVariants.{Refused}
 use Rattle.codec_pdu.specs.declared.Pdu.{Pdu}
 use Rattle.codec_reading.specs.Read.{pdu_of}
-use Rattle.codec_separation.specs.declared.Found.{Found}
-use Rattle.codec_separation.specs.declared.Found.TheVariants.{One, Cut}
-use Rattle.codec_separation.specs.declared.Separation.{Separation}
-use Rattle.codec_separation.specs.declared.Separation.TheVariants.{Parts, Refused}
-
--- a part of a datagram: where it begins, and its length
-pub record Part : Type 0 where
-  pub start : ℕ
-  pub len : ℕ
+use Rattle.codec_separation.specs.declared.Part.{Part}
+use Rattle.codec_separation.specs.declared.Parts.{Parts}
 
 -- the parts of a datagram, in order; or 11 for the whole datagram
 pub data Split : Type 0 where
@@ -23,14 +17,14 @@ pub data Split : Type 0 where
   parts : List Part → Split
 
 -- 01: "Zero length, an overrun .. gives 11": else the part of len octets from start
-unfoldable pub part_of : List ℕ → ℕ → ℕ → Found
-part_of d start len = pick (eqb len 0) Cut (pick (leb len (length d - start)) (One start len) Cut)
+unfoldable pub part_of : List ℕ → ℕ → ℕ → Option Part
+part_of d start len = pick (eqb len 0) None (pick (leb len (length d - start)) (Some (record { start = start; len = len })) None)
 
 -- 01: "Length is 7 bits, or 15 after a leading 1. A reader takes either form": the length at `at` and the part "that begins after its length"
-unfoldable pub part_at : List ℕ → ℕ → Found
+unfoldable pub part_at : List ℕ → ℕ → Option Part
 part_at d at =
     pick (ltb (get_or d at 0) 128) (part_of d (at + 1) (get_or d at 0))
-    (pick (leb (length d) (at + 1)) Cut
+    (pick (leb (length d) (at + 1)) None
     (part_of d (at + 1 + 1) (get_or d at 0 % 128 * 256 + get_or d (at + 1) 0)))
 
 -- a part before the others
@@ -39,9 +33,9 @@ before p refused = refused
 before p (parts ps) = parts (p ∷ ps)
 
 -- what is found at a place, and then the rest from the place after it
-abbrev pub and_then : (ℕ → Split) → Found → Split
-and_then rest Cut = refused
-and_then rest (One start len) = before (record { start = start; len = len }) (rest (start + len))
+abbrev pub and_then : (ℕ → Split) → Option Part → Split
+and_then rest None = refused
+and_then rest (Some p) = before p (rest (p.start + p.len))
 
 -- 01: "a length and a PDU, repeated", from `at` to the end; each takes an octet or more, so as many turns as octets are enough
 unfoldable pub parts_from : ℕ → List ℕ → ℕ → Split
@@ -66,11 +60,11 @@ abbrev pub no_part : Part
 no_part = record { start = 0; len = 0 }
 
 -- how many parts there are, and the k-th of them (0 is the first); or number 11
-abbrev pub answer_at : Split → ℕ → Separation
-answer_at refused k = Refused WrongLength
-answer_at (parts ps) k = Parts (length ps) (get_or ps k no_part).start (get_or ps k no_part).len
+abbrev pub answer_at : Split → ℕ → Result Parts Refusal
+answer_at refused k = Err WrongLength
+answer_at (parts ps) k = Ok (record { count = length ps; part = get_or ps k no_part })
 
 -- 01: "Each PDU is handed on as the part of the datagram that begins after its length": what the reader says of it
-unfoldable pub pdu_at : List ℕ → Separation → Pdu
-pdu_at d (Refused r) = blank_pdu (NoPdu r)
-pdu_at d (Parts count start len) = pdu_of (part d start len)
+unfoldable pub pdu_at : List ℕ → Result Parts Refusal → Pdu
+pdu_at d (Err r) = blank_pdu (Refused r)
+pdu_at d (Ok seen) = pdu_of (part d seen.part.start seen.part.len)

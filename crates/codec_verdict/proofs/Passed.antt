@@ -8,60 +8,60 @@ use lib.Dec.{ltb, eqb}
 use borrow.Author.Tests.{ltb-false, eqb-false, le-ltb, ne_eqb}
 use Rattle.base_lists.specs.Seq.{pick}
 use Rattle.base_lists.proofs.StoresAndParts.{true_false}
-use Rattle.base_numbers.specs.declared.Malformed.{Malformed}
 use Rattle.base_numbers.specs.declared.Malformed.TheVariants.{D1, D2, D3, D4, D7}
+use Rattle.base_numbers.specs.declared.Malformed.{Malformed}
 use Rattle.base_numbers.specs.declared.Refusal.TheVariants.{WrongLength}
-use Rattle.base_numbers.specs.declared.Verdict.{Verdict}
-use Rattle.base_numbers.specs.declared.Verdict.TheVariants.{Sound, Bad}
+use Rattle.std.specs.Prelude.{Ok, Err}
 use Rattle.codec_pdu.specs.Pdu.{sound_of, bare_of, blank_pdu}
 use Rattle.codec_pdu.specs.declared.Kind.TheVariants.{Wrong, Refused}
 use Rattle.codec_pdu.specs.declared.Pdu.{Pdu}
 use Rattle.codec_said.specs.Said.{word, pdu_said}
 use Rattle.codec_encoding.specs.Write.{or_else, kind_fault, rest_fault, fault_of}
+use Rattle.codec_items.specs.Items.{Verdict}
 use Rattle.codec_verdict.specs.Length.{length_said}
 use Rattle.codec_verdict.specs.Widths.{fits}
 use Rattle.codec_verdict.specs.Judge.{items_inside, fault_in, ruled, judged_of}
 use Rattle.codec_verdict.proofs.Bounds.{Fitting, fits_tell, fits_hold}
 use Rattle.codec_verdict.proofs.Types.{Typed, typed}
 
-pub bad_sound : {A : Type 0} (d : Malformed) → Bad d ≡ Sound → A
-bad_sound d e = let z : ◌≡◌ {A = ℕ} 0 1 = cc in absurd (omega arith)
+pub bad_sound : {A : Type 0} (d : Malformed) → ◌≡◌ {A = Verdict} (Err d) (Ok tt) → A
+bad_sound d e = absurd cc
 
 -- neither the kind nor an item nor what follows is at fault
 pub record Faultless (n : ℕ) (p : Pdu) : Type 0 where
-  pub kind_sound : kind_fault p.kind ≡ Sound
+  pub kind_sound : kind_fault p.kind ≡ Ok tt
   pub items_lie : items_inside n p.list p.count ≡ true
-  pub rest_sound : rest_fault p ≡ Sound
+  pub rest_sound : rest_fault p ≡ Ok tt
 
-pub faultless : (n : ℕ) (p : Pdu) → fault_in n p ≡ Sound → Faultless n p
+pub faultless : (n : ℕ) (p : Pdu) → fault_in n p ≡ Ok tt → Faultless n p
 unfolding fault_in
 faultless n p e = go (kind_fault p.kind) refl (items_inside n p.list p.count) refl e
   where
-    go : (v : Verdict) → kind_fault p.kind ≡ v → (b : Bool) → items_inside n p.list p.count ≡ b → or_else v (pick b (rest_fault p) (Bad D3)) ≡ Sound → Faultless n p
-    go (Bad d) k b i q = bad_sound d q
-    go Sound k false i q = bad_sound D3 q
-    go Sound k true i q = record { kind_sound = k; items_lie = i; rest_sound = q }
+    go : (v : Verdict) → kind_fault p.kind ≡ v → (b : Bool) → items_inside n p.list p.count ≡ b → or_else v (pick b (rest_fault p) (Err D3)) ≡ Ok tt → Faultless n p
+    go (Err d) k b i q = bad_sound d q
+    go (Ok tt) k false i q = bad_sound D3 q
+    go (Ok tt) k true i q = record { kind_sound = k; items_lie = i; rest_sound = q }
 
-pub no_fault : (n : ℕ) (p : Pdu) → Faultless n p → fault_in n p ≡ Sound
+pub no_fault : (n : ℕ) (p : Pdu) → Faultless n p → fault_in n p ≡ Ok tt
 unfolding fault_in
 no_fault n p f = rw (f.kind_sound, f.items_lie, f.rest_sound)
 
 -- what D4 and D7 leave
-pub few_items : (p : Pdu) → rest_fault p ≡ Sound → p.count ≤ 16
+pub few_items : (p : Pdu) → rest_fault p ≡ Ok tt → p.count ≤ 16
 unfolding rest_fault
 few_items p e = go (ltb 16 p.count) refl e
   where
-    go : (b : Bool) → ltb 16 p.count ≡ b → pick b (Bad D4) (pick (bare_of p.kind) (pick (eqb p.len 0) Sound (Bad D7)) Sound) ≡ Sound → p.count ≤ 16
+    go : (b : Bool) → ltb 16 p.count ≡ b → ◌≡◌ {A = Verdict} (pick b (Err D4) (pick (bare_of p.kind) (pick (eqb p.len 0) (Ok tt) (Err D7)) (Ok tt))) (Ok tt) → p.count ≤ 16
     go true t q = bad_sound D4 q
     go false t q = ltb-false 16 p.count t
 
-pub sound_parts : (p : Pdu) → fault_of p ≡ Sound → (kind_fault p.kind ≡ Sound) × (rest_fault p ≡ Sound)
+pub sound_parts : (p : Pdu) → fault_of p ≡ Ok tt → (kind_fault p.kind ≡ Ok tt) × (rest_fault p ≡ Ok tt)
 unfolding fault_of
 sound_parts p e = go (kind_fault p.kind) refl e
   where
-    go : (v : Verdict) → kind_fault p.kind ≡ v → or_else v (rest_fault p) ≡ Sound → (kind_fault p.kind ≡ Sound) × (rest_fault p ≡ Sound)
-    go (Bad d) k q = bad_sound d q
-    go Sound k q = (k, q)
+    go : (v : Verdict) → kind_fault p.kind ≡ v → or_else v (rest_fault p) ≡ Ok tt → (kind_fault p.kind ≡ Ok tt) × (rest_fault p ≡ Ok tt)
+    go (Err d) k q = bad_sound d q
+    go (Ok tt) k q = (k, q)
 
 pub record Passed (w : List ℕ) (n : ℕ) : Type 0 where
   pub type_said : Typed (word w 0)
@@ -82,8 +82,8 @@ module _ (w : List ℕ) (n : ℕ) where
       go false p true q c r d s v t e = true_false (sym e)
       go false p false q true r d s v t e = true_false (sym e)
       go false p false q false r false s v t e = true_false (sym e)
-      go false p false q false r true s (Bad m) t e = true_false (sym e)
-      go false p false q false r true s Sound t e = record {
+      go false p false q false r true s (Err m) t e = true_false (sym e)
+      go false p false q false r true s (Ok tt) t e = record {
         type_said = typed (word w 0) (eqb-false (word w 0) 0 p) (ltb-false 7 (word w 0) q);
         not_long = ltb-false 1500 (length_said w) r;
         fitting = fits_tell w n s;

@@ -1,12 +1,10 @@
 -- How the words of a PDU to be written are judged. The C interface: "In this order: 1 (sizes), D2, 11, D1, D5, D6, D3 and D4, D7".
-use Rattle.std.specs.Prelude.{ℕ, ◌≤◌, ◌<◌, ◌≡◌, List, Bool, true, length, get_or, ltb, eqb}
+use Rattle.std.specs.Prelude.{ℕ, ◌≤◌, ◌<◌, ◌≡◌, List, Bool, true, length, get_or, ltb, eqb, Ok, Err}
 use Rattle.base_layout.specs.Layout.{datagram_bound}
 use Rattle.base_lists.specs.Seq.{pick, every}
 use Rattle.base_numbers.specs.declared.Malformed.TheVariants.{D1, D2, D3}
 use Rattle.base_numbers.specs.declared.Refusal.TheVariants.{WrongLength}
-use Rattle.base_numbers.specs.declared.Verdict.{Verdict}
-use Rattle.base_numbers.specs.declared.Verdict.TheVariants.{Sound, Bad}
-use Rattle.codec_items.specs.Items.{no_item}
+use Rattle.codec_items.specs.Items.{Verdict, no_item}
 use Rattle.codec_items.specs.declared.Item.{Item}
 use Rattle.codec_pdu.specs.Pdu.{bare_of, blank_pdu}
 use Rattle.codec_pdu.specs.declared.Kind.TheVariants.{Wrong, Refused}
@@ -26,12 +24,12 @@ items_inside n l count = every (item_inside n l) (placed count)
 
 -- the C interface: "D5, D6, D3 and D4, D7"; "D3 is an item whose data runs past BYTES, D4 a number of items over 16"
 unfoldable pub fault_in : ℕ → Pdu → Verdict
-fault_in n p = or_else (kind_fault p.kind) (pick (items_inside n p.list p.count) (rest_fault p) (Bad D3))
+fault_in n p = or_else (kind_fault p.kind) (pick (items_inside n p.list p.count) (rest_fault p) (Err D3))
 
 -- the PDU where there is no fault, else the fault
 abbrev pub ruled : Verdict → Pdu → Pdu
-ruled (Bad d) p = blank_pdu (Wrong d)
-ruled Sound p = p
+ruled (Err d) p = blank_pdu (Wrong d)
+ruled (Ok tt) p = p
 
 -- what 88 words and n bytes give: the PDU said, or the first reason not to write it
 unfoldable pub judged_of : List ℕ → ℕ → Pdu
@@ -45,7 +43,7 @@ judged_of w n =
 pub record Writable (s : List ℕ) (p : Pdu) : Type 0 where
   pub fit : Fit s p
   pub few : p.count ≤ 16
-  pub sound : fault_of p ≡ Sound
+  pub sound : fault_of p ≡ Ok tt
   pub short : length (octets_of s p) ≤ datagram_bound
 
 -- a PDU as the reader leaves one, with its parts in s: its octets are octets, and unused places hold nothing

@@ -9,7 +9,7 @@ ghost use Rattle.codec_verdict.specs.Length.{placed, header_said, form_length, l
 ghost use Rattle.codec_verdict.specs.Widths.{longest_said, widths_of, row_narrow, head_narrow, item_narrow, items_narrow, none_too_wide, inside, fits};
 ghost use Rattle.codec_verdict.specs.Judge.{items_inside, fault_in, judged_of};
 
-use base_numbers::{Malformed, Refusal, Verdict};
+use base_numbers::{Malformed, Refusal};
 use codec_pdu::Kind;
 
 // Lengths are added up to one over the bound.
@@ -17,21 +17,20 @@ const OVER: u64 = DATAGRAM_BOUND + 1;
 
 const DATAGRAM_BOUND: u64 = base_layout::DATAGRAM_BOUND as u64;
 
-const ANY: u64 = 18446744073709551615;
+const ANY: u64 = u64::MAX;
 
 // A sum up to 1,501: what is over 1,500 stays so, and none wraps.
 fn capped(a: u64, b: u64) -> u64
-    requires { a ≤ 1501 }
     ensures { result ≡ min (a + b) 1501 }
 {
-    if OVER - a < b { OVER } else { a + b }
+    a.saturating_add(b).min(OVER)
 }
 
 // How many items there are places for.
 fn places(count: u64) -> usize
     ensures { result ≡ placed count }
 {
-    if count < 16 { count as usize } else { 16 }
+    count.min(16) as usize
 }
 
 // The length of the fixed header, up to 1,501.
@@ -60,13 +59,10 @@ fn over_long(words: &[u64]) -> bool
     requires { 88 ≤ length words.now }
     ensures { result ≡ ltb datagram_bound (length_said words.now) }
 {
-    let n = places(words[15]);
     let mut sum = capped(header_length(words), words[17]);
-    let mut k = 0;
-    while k < n {
+    for k in 0..places(words[15]) {
         let at = 24 + 4 * k;
         sum = capped(capped(sum, form_length(words[at + 1])), words[at + 3]);
-        k += 1;
     }
     DATAGRAM_BOUND < sum
 }
@@ -137,48 +133,36 @@ fn row_narrow(words: &[u64], at: usize, most: &[u64]) -> bool
     requires { at + length most.now ≤ length words.now }
     ensures { result ≡ row_narrow words.now at most.now }
 {
-    let mut j = 0;
-    while j < most.len() {
-        if most[j] < words[at + j] {
-            return false;
-        }
-        j += 1;
-    }
-    true
+    words[at..]
+        .iter()
+        .zip(most)
+        .all(|(word, most)| word <= most)
 }
 
 // Whether none of the words 0 to 23 is too wide for its place.
+#[tactic(auto, unfolding(crate::specs::Widths::head_narrow))]
 fn head_narrow(words: &[u64]) -> bool
     requires { (88 ≤ length words.now) × (word words.now 0 < 8) }
     ensures { result ≡ head_narrow words.now }
 {
-    let first = first_widths(words[0]);
-    let middle = middle_widths(words[0]);
-    let last = last_widths(words[0]);
-    if row_narrow(words, 0, &first) {
-        if row_narrow(words, 8, &middle) {
-            row_narrow(words, 16, &last)
-        } else {
-            false
-        }
-    } else {
-        false
-    }
+    row_narrow(words, 0, &first_widths(words[0]))
+        && row_narrow(words, 8, &middle_widths(words[0]))
+        && row_narrow(words, 16, &last_widths(words[0]))
 }
 
 // Whether none of the four words of the item k is too wide for its place; all are 0 where there is no item k.
+#[tactic(auto, unfolding(crate::specs::Widths::widest_four))]
 fn item_narrow(words: &[u64], k: usize) -> bool
     requires { (88 ≤ length words.now) × (k < 16) }
     ensures { result ≡ item_narrow words.now k }
 {
     let at = 24 + 4 * k;
-    if (k as u64) < words[15] {
-        let most = [15, 1, ANY, longest(words[at + 1])];
-        row_narrow(words, at, &most)
+    let most = if (k as u64) < words[15] {
+        [15, 1, ANY, longest(words[at + 1])]
     } else {
-        let most = [0, 0, 0, 0];
-        row_narrow(words, at, &most)
-    }
+        [0; 4]
+    };
+    row_narrow(words, at, &most)
 }
 
 // Whether no word of the 16 items is too wide for its place.
@@ -186,15 +170,7 @@ fn items_narrow(words: &[u64]) -> bool
     requires { 88 ≤ length words.now }
     ensures { result ≡ items_narrow words.now }
 {
-    let mut k = 0;
-    while k < 16 {
-        if item_narrow(words, k) {
-            k += 1;
-        } else {
-            return false;
-        }
-    }
-    true
+    (0..16).all(|k| item_narrow(words, k))
 }
 
 // Whether no word is too wide for its place.
@@ -202,63 +178,38 @@ fn none_too_wide(words: &[u64]) -> bool
     requires { (88 ≤ length words.now) × (word words.now 0 < 8) }
     ensures { result ≡ none_too_wide words.now }
 {
-    if head_narrow(words) {
-        items_narrow(words)
-    } else {
-        false
-    }
+    head_narrow(words) && items_narrow(words)
 }
 
 // Whether len octets from start on lie within n.
+#[tactic(auto, using(crate::proofs::Steps::inside_after, crate::proofs::Steps::not_inside))]
 fn lies_inside(n: u64, start: u64, len: u64) -> bool
     ensures { result ≡ inside n start len }
 {
-    if start <= n { len <= n - start } else { false }
+    start <= n && len <= n - start
 }
 
 // Whether the words fit: D1 where they don't.
+#[tactic(auto, unfolding(crate::specs::Widths::fits))]
 fn fit(words: &[u64], n: u64) -> bool
     requires { (88 ≤ length words.now) × (word words.now 0 < 8) }
     ensures { result ≡ fits words.now n }
 {
-    if none_too_wide(words) {
-        if lies_inside(n, words[14], words[13]) {
-            lies_inside(n, words[16], words[17])
-        } else {
-            false
-        }
-    } else {
-        false
-    }
+    none_too_wide(words)
+        && lies_inside(n, words[14], words[13])
+        && lies_inside(n, words[16], words[17])
 }
 
 // D5 and D6.
 #[tactic(auto, unfolding(codec_encoding::specs::Write::kind_fault))]
-fn kind_fault(kind: Kind) -> Verdict
+fn kind_fault(kind: Kind) -> Result<(), Malformed>
     ensures { result ≡ kind_fault kind }
 {
     match kind {
-        Kind::Invoke { class, .. } => {
-            if class == 3 {
-                Verdict::Bad(Malformed::D5)
-            } else {
-                Verdict::Sound
-            }
-        }
-        Kind::Result { .. } => Verdict::Sound,
-        Kind::Ack { .. } => Verdict::Sound,
-        Kind::Abort { abort_type, .. } => {
-            if 1 < abort_type {
-                Verdict::Bad(Malformed::D6)
-            } else {
-                Verdict::Sound
-            }
-        }
-        Kind::SegInvoke { .. } => Verdict::Sound,
-        Kind::SegResult { .. } => Verdict::Sound,
-        Kind::Nack { .. } => Verdict::Sound,
-        Kind::Wrong(d) => Verdict::Bad(d),
-        Kind::Refused(_) => Verdict::Sound,
+        Kind::Invoke { class: 3, .. } => Err(Malformed::D5),
+        Kind::Abort { abort_type, .. } if 1 < abort_type => Err(Malformed::D6),
+        Kind::Wrong(d) => Err(d),
+        _ => Ok(()),
     }
 }
 
@@ -267,78 +218,58 @@ fn items_inside(words: &[u64], n: u64) -> bool
     requires { 88 ≤ length words.now }
     ensures { result ≡ items_inside n (items_said words.now) (word words.now 15) }
 {
-    let last = places(words[15]);
-    let mut k = 0;
-    while k < last {
+    (0..places(words[15])).all(|k| {
         let at = 24 + 4 * k;
-        if lies_inside(n, words[at + 2], words[at + 3]) {
-            k += 1;
-        } else {
-            return false;
-        }
-    }
-    true
+        lies_inside(n, words[at + 2], words[at + 3])
+    })
 }
 
 // D4 and D7.
-fn rest_fault(words: &[u64], kind: Kind) -> Verdict
+#[tactic(auto, unfolding(codec_encoding::specs::Write::rest_fault, codec_said::specs::Said::pdu_said))]
+fn rest_fault(words: &[u64], kind: Kind) -> Result<(), Malformed>
     requires { (88 ≤ length words.now) × (kind ≡ kind_said words.now) }
     ensures { result ≡ rest_fault (pdu_said words.now) }
 {
     if 16 < words[15] {
-        return Verdict::Bad(Malformed::D4);
-    }
-    if codec_pdu::bare(kind) {
-        if words[17] == 0 {
-            Verdict::Sound
-        } else {
-            Verdict::Bad(Malformed::D7)
-        }
+        Err(Malformed::D4)
+    } else if codec_pdu::bare(kind) && words[17] != 0 {
+        Err(Malformed::D7)
     } else {
-        Verdict::Sound
+        Ok(())
     }
 }
 
 // D5, D6, D3, D4, D7 of the PDU of this kind that the words say, whose items lie in n octets.
-fn fault_in(words: &[u64], kind: Kind, n: u64) -> Verdict
+#[tactic(auto, unfolding(crate::specs::Judge::fault_in, codec_said::specs::Said::pdu_said))]
+fn fault_in(words: &[u64], kind: Kind, n: u64) -> Result<(), Malformed>
     requires { (88 ≤ length words.now) × (kind ≡ kind_said words.now) }
     ensures { result ≡ fault_in n (pdu_said words.now) }
 {
-    let first = kind_fault(kind);
-    match first {
-        Verdict::Bad(d) => Verdict::Bad(d),
-        Verdict::Sound => {
-            if items_inside(words, n) {
-                rest_fault(words, kind)
-            } else {
-                Verdict::Bad(Malformed::D3)
-            }
-        }
+    kind_fault(kind)?;
+    if !items_inside(words, n) {
+        return Err(Malformed::D3);
     }
+    rest_fault(words, kind)
 }
 
 // The kind of the PDU that the words say, with its parts in `bytes` octets; or why it isn't written.
+#[tactic(auto, unfolding(crate::specs::Judge::judged_of, codec_pdu::specs::Pdu::blank_pdu, codec_said::specs::Said::pdu_said))]
 pub fn judged_kind(words: &[u64], bytes: usize) -> Kind
     requires { 88 ≤ length words.now }
     ensures { result ≡ (judged_of words.now bytes).kind }
 {
-    if words[0] == 0 {
-        return Kind::Wrong(Malformed::D2);
-    }
-    if 7 < words[0] {
+    if words[0] == 0 || 7 < words[0] {
         return Kind::Wrong(Malformed::D2);
     }
     if over_long(words) {
         return Kind::Refused(Refusal::WrongLength);
     }
-    if fit(words, bytes as u64) {
-        let kind = codec_said::kind_said(words);
-        let fault = fault_in(words, kind, bytes as u64);
-        match fault {
-            Verdict::Bad(d) => Kind::Wrong(d),
-            Verdict::Sound => kind,
-        }
-    } else {
-        Kind::Wrong(Malformed::D1)
+    if !fit(words, bytes as u64) {
+        return Kind::Wrong(Malformed::D1);
+    }
+    let kind = codec_said::kind_said(words);
+    match fault_in(words, kind, bytes as u64) {
+        Ok(()) => kind,
+        Err(d) => Kind::Wrong(d),
     }
 }

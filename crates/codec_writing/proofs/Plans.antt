@@ -18,8 +18,7 @@ use Rattle.codec_encoding.specs.Write.{octets_of}
 use Rattle.codec_verdict.specs.Judge.{judged_of, Writable}
 use Rattle.codec_verdict.proofs.Passed.{passed, given}
 use Rattle.codec_verdict.proofs.Accepted.{accepted}
-use Rattle.codec_writing.specs.Writing.{plan_of, plan, answer_of, done, written_answer, output_after, written}
-use Rattle.codec_writing.specs.declared.Written.{Written}
+use Rattle.codec_writing.specs.Writing.{Written, plan_of, plan, answer_of, done, written_answer, output_after, written}
 
 -- words that give a PDU: it is the one that they say, it can be written, and the output has room for any
 pub record Planned (w s : List ℕ) (room : ℕ) : Type 0 where

@@ -7,18 +7,28 @@ ghost use Rattle.base_lists.specs.Seq.{put};
 ghost use Rattle.codec_encoding.specs.Write.{items_octets, octets_of, FitItems};
 ghost use Rattle.codec_said.specs.Said.{kind_said, items_said, pdu_said};
 ghost use Rattle.codec_verdict.specs.Judge.{Writable};
-ghost use Rattle.codec_writing.specs.Writing.{plan_of, answer_of, done, written};
+ghost use Rattle.codec_writing.specs.Writing.{fault_number, plan_of, answer_of, done, written};
 
 use base_numbers::{Malformed, Refusal};
 use base_tids::SendTid;
 use codec_pdu::Kind;
 
-// The length of the PDU that was written; or why none was.
+// Why no PDU was written.
 #[derive(Clone, Copy)]
-pub enum Written {
-    Length(usize),
+pub enum Fault {
     Malformed(Malformed),
     Refused(Refusal),
+}
+
+impl From<Fault> for u64 {
+    ghost from_gives = { λ it number. number ≡ fault_number it };
+
+    fn from(it: Fault) -> u64 {
+        match it {
+            Fault::Malformed(d) => u64::from(d),
+            Fault::Refused(r) => u64::from(r),
+        }
+    }
 }
 
 // The kind of the PDU to be written, with its parts in `bytes` octets and room for `room`; or why it isn't.
@@ -26,10 +36,7 @@ pub enum Written {
 fn planned_kind(fields: &[u64], bytes: usize, room: usize) -> Kind
     ensures { result ≡ (plan_of fields.now bytes room).kind }
 {
-    if fields.len() < 88 {
-        return Kind::Refused(Refusal::WrongSize);
-    }
-    if room < base_layout::DATAGRAM_BOUND {
+    if fields.len() < 88 || room < base_layout::DATAGRAM_BOUND {
         return Kind::Refused(Refusal::WrongSize);
     }
     codec_verdict::judged_kind(fields, bytes)
@@ -43,11 +50,9 @@ fn put_items(out: &mut [u8], at: usize, src: &[u8], words: &[u64], n: usize) -> 
     ensures { (result ≡ at + length (items_octets src.now false (take n (items_said words.now)))) × (out.new ≡ put out.old at (items_octets src.now false (take n (items_said words.now)))) }
 {
     let mut next = at;
-    let mut k = 0;
-    while k < n {
+    for k in 0..n {
         let it = codec_said::item_said(words, k);
         next = codec_encoding::put_item(&mut *out, next, src, it, k + 1 < n);
-        k += 1;
     }
     next
 }
@@ -69,24 +74,18 @@ fn put_said(out: &mut [u8], src: &[u8], words: &[u64], kind: Kind) -> usize
 
 // What is given back for a kind and the length of its PDU.
 #[tactic(auto, unfolding(crate::specs::Writing::answer_of))]
-fn answer(kind: Kind, len: usize) -> Written
+fn answer(kind: Kind, len: usize) -> Result<usize, Fault>
     ensures { result ≡ answer_of len kind }
 {
     match kind {
-        Kind::Invoke { .. } => Written::Length(len),
-        Kind::Result { .. } => Written::Length(len),
-        Kind::Ack { .. } => Written::Length(len),
-        Kind::Abort { .. } => Written::Length(len),
-        Kind::SegInvoke { .. } => Written::Length(len),
-        Kind::SegResult { .. } => Written::Length(len),
-        Kind::Nack { .. } => Written::Length(len),
-        Kind::Wrong(d) => Written::Malformed(d),
-        Kind::Refused(r) => Written::Refused(r),
+        Kind::Wrong(d) => Err(Fault::Malformed(d)),
+        Kind::Refused(r) => Err(Fault::Refused(r)),
+        _ => Ok(len),
     }
 }
 
 // Writes the PDU that the words say, with its parts in `bytes`, to the start of the output.
-pub fn write(fields: &[u64], bytes: &[u8], out: &mut [u8]) -> Written
+pub fn write(fields: &[u64], bytes: &[u8], out: &mut [u8]) -> Result<usize, Fault>
     ensures { done result out.new ≡ written fields.now bytes.now out.old }
 {
     let kind = planned_kind(fields, bytes.len(), out.len());

@@ -7,7 +7,7 @@ use mathlib.Core.Bool.{true}
 use lib.ListN.{length, get_or, length-append}
 use lib.Seq.{take-append_seam, drop-append_seam}
 use Rattle.base_lists.proofs.StoresAndParts.{length_part}
-use Rattle.codec_separation.specs.Separate.{Part}
+use Rattle.codec_separation.specs.declared.Part.{Part}
 use Rattle.codec_separation.specs.Faults.{Announced, seven, fifteen}
 use Rattle.codec_separation.proofs.Ordered.{kinds}
 use Rattle.codec_separation.specs.Order.{Repeated}

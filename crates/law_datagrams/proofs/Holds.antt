@@ -5,7 +5,8 @@ use mathlib.Core.Path.{◌≡◌, refl, ◌∙◌}
 use mathlib.Core.List.{List, [], ◌∷◌}
 use lib.ListN.{length, get_or}
 use Rattle.base_lists.specs.Seq.{part}
-use Rattle.codec_separation.specs.Separate.{Part, parts}
+use Rattle.codec_separation.specs.Separate.{parts}
+use Rattle.codec_separation.specs.declared.Part.{Part}
 use Rattle.codec_separation.specs.Faults.{Announced}
 use Rattle.codec_separation.proofs.Looks.{announced_at, found_there}
 use Rattle.codec_separation.proofs.Steps.{from, from_end, from_step}

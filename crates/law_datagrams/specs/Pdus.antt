@@ -1,7 +1,8 @@
 -- The PDUs of a datagram as octets.
 use Rattle.std.specs.Prelude.{ℕ, ◌≡◌, List, [], ◌∷◌, map, take, drop}
 use Rattle.base_lists.specs.Seq.{part}
-use Rattle.codec_separation.specs.Separate.{Part, parts, parts_of}
+use Rattle.codec_separation.specs.Separate.{parts, parts_of}
+use Rattle.codec_separation.specs.declared.Part.{Part}
 
 -- the octets of the parts of d
 abbrev pub octets_of : List ℕ → List Part → List (List ℕ)

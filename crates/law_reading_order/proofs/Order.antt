@@ -10,8 +10,8 @@ use lib.ListN.{length}
 use Rattle.base_lists.proofs.StoresAndParts.{true_false}
 use Rattle.base_numbers.specs.declared.Malformed.{Malformed}
 use Rattle.base_numbers.specs.declared.Refusal.TheVariants.{WrongLength}
-use Rattle.base_numbers.specs.declared.Verdict.{Verdict}
-use Rattle.base_numbers.specs.declared.Verdict.TheVariants.{Sound, Bad}
+use Rattle.codec_items.specs.Items.{Verdict}
+use Rattle.std.specs.Prelude.{Ok, Err}
 use Rattle.codec_pdu.specs.declared.Kind.{Kind}
 use Rattle.codec_pdu.specs.declared.Kind.TheVariants.{Wrong, Refused}
 use Rattle.codec_pdu.specs.declared.Pdu.{Pdu}
@@ -36,20 +36,20 @@ module _ (p : Pdu) where
       absurd (omega arith)
 
   -- from what the reader answers to the verdict
-  told_bad : (v : Verdict) (d : Malformed) → Answers v p → p ≡ blank_pdu (Wrong d) → v ≡ Bad d
+  told_bad : (v : Verdict) (d : Malformed) → Answers v p → p ≡ blank_pdu (Wrong d) → v ≡ Err d
   unfolding blank_pdu sound_of
-  told_bad (Bad c) d a e = let k : Wrong c ≡ Wrong d = ap (λ (p : Pdu). p.kind) (sym a ∙ e) in cc
-  told_bad Sound d a e = blank_sound (Wrong d) refl e a
+  told_bad (Err c) d a e = let k : Wrong c ≡ Wrong d = ap (λ (p : Pdu). p.kind) (sym a ∙ e) in cc
+  told_bad (Ok tt) d a e = blank_sound (Wrong d) refl e a
 
-  told_sound : (v : Verdict) → Answers v p → sound_of p.kind ≡ true → v ≡ Sound
+  told_sound : (v : Verdict) → Answers v p → sound_of p.kind ≡ true → v ≡ Ok tt
   unfolding sound_of
-  told_sound (Bad c) a t = blank_sound (Wrong c) refl a t
-  told_sound Sound a t = refl
+  told_sound (Err c) a t = blank_sound (Wrong c) refl a t
+  told_sound (Ok tt) a t = refl
 
   not_refused : (v : Verdict) → Answers v p → p ≡ blank_pdu (Refused WrongLength) → ⊥
   unfolding sound_of
-  not_refused (Bad c) a e = wrong_refused c a e
-  not_refused Sound a e = blank_sound (Refused WrongLength) refl e a
+  not_refused (Err c) a e = wrong_refused c a e
+  not_refused (Ok tt) a e = blank_sound (Refused WrongLength) refl e a
 
 module _ (s : List ℕ) where
   pdu_outside : OutsideLength s → pdu_of s ≡ blank_pdu (Refused WrongLength)

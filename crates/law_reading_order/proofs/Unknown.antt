@@ -7,12 +7,12 @@ use mathlib.Core.List.{List}
 use mathlib.Core.Bool.{Bool, true, false}
 use mathlib.Core.Logic.{◌⊎◌, inl, inr}
 use lib.ListN.{length, get_or}
+use Rattle.std.specs.Prelude.{Option, Some, None, Ok}
 use lib.Dec.{leb, eqb}
 use Rattle.base_lists.specs.Seq.{pick}
 use Rattle.base_lists.proofs.StoresAndParts.{below_or_last, lt_or_le}
 use Rattle.codec_items.specs.declared.Item.{Item}
 use Rattle.codec_items.specs.declared.Got.{Got}
-use Rattle.codec_items.specs.declared.Got.TheVariants.{One, Cut}
 use Rattle.codec_items.specs.declared.Sought.TheVariants.{UnknownItem}
 use Rattle.codec_items.specs.declared.Unknown.{Unknown}
 use Rattle.codec_items.specs.Items.{item_at}
@@ -21,7 +21,7 @@ use Rattle.codec_items.specs.Info.{first_from}
 use Rattle.codec_items.specs.Unknown.{no_unknown, unknown_from}
 use Rattle.codec_items.specs.FirstUnknown.{Known}
 use Rattle.codec_items.specs.Found.{end_from, end_after_is, place_from, place_after, unknown_in}
-use Rattle.codec_items.proofs.Forms.{item_forms, item_inside_holds}
+use Rattle.codec_items.proofs.Forms.{met, item_forms}
 use Rattle.codec_items.proofs.Finds.{unknown_found}
 use Rattle.codec_items.proofs.FirstUnknown.{known, below_six}
 use Rattle.codec_pdu.specs.Pdu.{sound_of, unknown_of}
@@ -69,41 +69,40 @@ module _ (s : List ℕ) where
   Sees u = ((u ≡ no_unknown) × AllKnown s) ⊎ FirstUnknown s u
 
   -- the identity of an item is in its first octet
-  identity_there : (at : ℕ) (it : Item) (con : Bool) (next : ℕ) → item_at s at ≡ One it con next → it.identity ≡ identity_at s at
-  identity_there at it con next e = go (item_forms s at it con next e)
+  identity_there : (at : ℕ) (it : Item) (con : Bool) (next : ℕ) → item_at s at ≡ met it con next → it.identity ≡ identity_at s at
+  identity_there at it con next e = go (item_forms s at _ e)
     where
       go : Short s at it con next ⊎ Long s at it con next → it.identity ≡ identity_at s at
       go (inl f) = ap (λ (x : Item). x.identity) f.item
       go (inr f) = ap (λ (x : Item). x.identity) f.item
 
-  walk_sees : (m k at : ℕ) → k + m ≡ 16 → 1 ≤ at → 2 ≤ end_from m s at → Reached s k at → KnownTo k → Sees (unknown_in s (place_from UnknownItem m s at))
-  unfolding end_from place_from unknown_in
-  walk_sees zero k at n far ends r before = absurd (omega arith)
-  walk_sees (suc m) k at n far ends r before = go (walk_sees m (suc k)) (item_at s at) refl ends
+  walk_sees : (m k at end : ℕ) → k + m ≡ 16 → end_from m s at ≡ Ok end → Reached s k at → KnownTo k → Sees (unknown_in s (place_from UnknownItem m s at))
+  unfolding end_from place_from
+  walk_sees zero k at end n ends r before = absurd cc
+  walk_sees (suc m) k at end n ends r before = go (λ (next : ℕ). walk_sees m (suc k) next end) (item_at s at) refl ends
     where
-      go : ((next : ℕ) → suc k + m ≡ 16 → 1 ≤ next → 2 ≤ end_from m s next → Reached s (suc k) next → KnownTo (suc k) → Sees (unknown_in s (place_from UnknownItem m s next)))
-          → (g : Got) → item_at s at ≡ g → 2 ≤ end_after_is (end_from m s) g → Sees (unknown_in s (place_after UnknownItem at (place_from UnknownItem m s) g))
-      go ih Cut e ends = absurd (omega arith)
-      go ih (One it con next) e ends = by (leb 6 it.identity) refl con refl
+      go : ((next : ℕ) → suc k + m ≡ 16 → end_from m s next ≡ Ok end → Reached s (suc k) next → KnownTo (suc k) → Sees (unknown_in s (place_from UnknownItem m s next)))
+          → (g : Option Got) → item_at s at ≡ g → end_after_is (end_from m s) g ≡ Ok end → Sees (unknown_in s (place_after UnknownItem at (place_from UnknownItem m s) g))
+      go ih None e ends = absurd cc
+      go ih (Some g) e ends = by (leb 6 g.item.identity) refl g.con refl
         where
-          same : it.identity ≡ identity_at s at
-          same = identity_there at it con next e
+          same : g.item.identity ≡ identity_at s at
+          same = identity_there at g.item g.con g.next e
 
-          here : Known (identity_at s at) → it.identity < 6
+          here : Known (identity_at s at) → g.item.identity < 6
           here x = rw same (below_six (identity_at s at) x)
 
-          told : Told s at con next
-          told = item_told_holds s at it con next e
+          told : Told s at g.con g.next
+          told = item_told_holds s at g.item g.con g.next e
 
-          by : (b : Bool) → leb 6 it.identity ≡ b → (c : Bool) → con ≡ c → Sees (unknown_in s (pick b at (pick c (place_from UnknownItem m s next) 0)))
+          by : (b : Bool) → leb 6 g.item.identity ≡ b → (c : Bool) → g.con ≡ c → Sees (unknown_in s (pick b (Some at) (pick c (place_from UnknownItem m s g.next) None)))
           by true h c q =
-              rw (ne_eqb at 0 (λ (z : at ≡ 0). absurd (omega arith)), e)
-              (inr (record { before = k; permitted = omega arith; reached = r; same_identity = same; not_known = λ x. absurd (omega (arith, leb-true 6 it.identity h, here x)); known_before = before }))
+              rw e
+              (inr (record { before = k; permitted = omega arith; reached = r; same_identity = same; not_known = λ x. absurd (omega (arith, leb-true 6 g.item.identity h, here x)); known_before = before }))
           by false h true q =
               let more : 128 ≤ get_or s at 0 = leb-true 128 (get_or s at 0) (sym told.more ∙ q) in
-              let on : Reached s (suc k) next = rw told.ends (another r (omega (arith, told.ends, told.inside)) more) in
-              ih next (omega arith) (omega (arith, (item_inside_holds s at it con next e).0)) (rw q at ends) on
-              (one_more k at r (rw (← same) (known it.identity (leb-false 6 it.identity h))) before)
+              let on : Reached s (suc k) g.next = rw told.ends (another r (omega (arith, told.ends, told.inside)) more) in
+              ih g.next (omega arith) (rw q at ends) on (one_more k at r (rw (← same) (known g.item.identity (leb-false 6 g.item.identity h))) before)
           by false h false q = inl (refl, all)
             where
               last : get_or s at 0 < 128
@@ -116,7 +115,7 @@ module _ (s : List ℕ) where
                   below_or_after j = lt_or_le j (suc k)
 
                   at_last : (j < suc k) ⊎ (suc k ≤ j) → Known (identity_at s x)
-                  at_last (inl b) = one_more k at r (rw (← same) (known it.identity (leb-false 6 it.identity h))) before j x b p
+                  at_last (inl b) = one_more k at r (rw (← same) (known g.item.identity (leb-false 6 g.item.identity h))) before j x b p
                   at_last (inr b) = absurd (omega (arith, con_set r p (omega arith), last))
 
   tells : (u : Unknown) → Sees u → TellsUnknown s u
@@ -159,29 +158,27 @@ module _ (s : List ℕ) where
         go false false true = omega arith
         go false false false = omega arith
 
-    starts : items_at s ≡ pick (leb 128 (get_or s 0 0)) (fixed_length s) 0
+    starts : items_at s ≡ pick (leb 128 (get_or s 0 0)) (Some (fixed_length s)) None
     unfolding items_at
     starts = rw (ne_eqb (length s) 0 (λ (z : length s ≡ 0). absurd (omega (arith, some))), head_is)
 
-    sees : ItemsOf s (items_at s) (pdu_of s) → Sees (unknown_of (pdu_of s))
+    sees : (first : Option ℕ) → items_at s ≡ first → ItemsOf s first (pdu_of s) → Sees (unknown_of (pdu_of s))
     unfolding unknown_of unknown_from first_from
-    sees (inl (e, n, l)) = inl (rw n, λ k at h r. absurd (go (reached_con s r)))
+    sees None f (n, l) = inl (rw n, λ k at h r. absurd (go (reached_con s r)))
       where
         go : 128 ≤ get_or s 0 0 → ⊥
-        go c =
-            let z : fixed_length s ≡ 0 = sym (rw (le-leb 128 (get_or s 0 0) c) at starts) ∙ e in
-            omega (arith, far)
-    sees (inr (a, (i, w, n, l))) = go (leb 128 (get_or s 0 0)) refl
+        go c = let is : None ≡ Some (fixed_length s) = sym f ∙ starts ∙ rw (le-leb 128 (get_or s 0 0) c) in absurd cc
+    sees (Some first) f (a, (i, end, e, w, n, l)) = go (leb 128 (get_or s 0 0)) refl
       where
         go : (b : Bool) → leb 128 (get_or s 0 0) ≡ b → Sees (unknown_of (pdu_of s))
         go true c =
-            let at : items_at s ≡ fixed_length s = rw c at starts in
-            let first : Reached s 0 (items_at s) = rw at (items_follow (leb-true 128 (get_or s 0 0) c)) in
-            rw (n, l, unknown_found s (items_at s) a _ i w) (walk_sees 16 0 (items_at s) refl a w.far first (λ j x h q. absurd (omega arith)))
+            let is : Some first ≡ Some (fixed_length s) = sym f ∙ starts ∙ rw c in
+            let at : first ≡ fixed_length s = cc in
+            let there : Reached s 0 first = rw at (items_follow (leb-true 128 (get_or s 0 0) c)) in
+            rw (n, l, unknown_found s first end i w) (walk_sees 16 0 first end refl e there (λ j x h q. absurd (omega arith)))
         go false c =
-            let z : items_at s ≡ 0 = rw c at starts in
-            absurd (omega arith)
+            let is : Some first ≡ None = sym f ∙ starts ∙ rw c in absurd cc
 
     -- 02, L4: the first item that isn't known
     pub tells_unknown : TellsUnknown s (unknown_of (pdu_of s))
-    tells_unknown = tells (unknown_of (pdu_of s)) (sees (read_items s sound))
+    tells_unknown = tells (unknown_of (pdu_of s)) (sees (items_at s) refl (read_items s sound))

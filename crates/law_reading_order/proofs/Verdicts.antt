@@ -8,7 +8,8 @@ use mathlib.Core.Bool.{true, false}
 use mathlib.Core.Logic.{◌⊎◌, inl, inr}
 use lib.ListN.{length, get_or}
 use Rattle.base_numbers.specs.declared.Malformed.TheVariants.{D3, D4, D5, D6, D7}
-use Rattle.base_numbers.specs.declared.Verdict.TheVariants.{Bad}
+use Rattle.codec_items.specs.Items.{Verdict}
+use Rattle.std.specs.Prelude.{Err}
 use Rattle.codec_pdu.specs.declared.Kind.TheVariants.{Wrong}
 use Rattle.codec_pdu.specs.Pdu.{sound_of, bare_of}
 use Rattle.codec_reading.specs.declared.Head.{Head}
@@ -20,8 +21,8 @@ use Rattle.law_reading_order.proofs.Heads.{head_wrong, head_right, kind_class, k
 use Rattle.law_reading_order.proofs.Walks.{found, Outcome, found_outcome, cut_verdict, many_verdict, end_verdict}
 use Rattle.law_reading_order.proofs.Judged.{Answered, holds, passed, none_held, bad_sound}
 
-many_cut : {A : Type 0} → Bad D4 ≡ Bad D3 → A
-many_cut e = let z : ◌≡◌ {A = ℕ} 0 1 = cc in absurd (omega arith)
+many_cut : {A : Type 0} → ◌≡◌ {A = Verdict} (Err D4) (Err D3) → A
+many_cut e = absurd cc
 
 module _ (s : List ℕ) where
   -- a header that is whole, and what follows a sound one

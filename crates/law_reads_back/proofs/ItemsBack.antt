@@ -8,11 +8,10 @@ use lib.ListN.{length, set, drop, replicate, length-append, length-replicate, re
 use lib.Seq.{sets, sets-eq, drop_at}
 use Rattle.base_lists.specs.Seq.{pick}
 use Rattle.base_numbers.specs.declared.Malformed.TheVariants.{D4}
-use Rattle.base_numbers.specs.declared.Verdict.TheVariants.{Sound, Bad}
+use Rattle.std.specs.Prelude.{Ok, Err}
 use Rattle.codec_items.specs.declared.Item.{Item}
-use Rattle.codec_items.specs.declared.Items.{Items}
-use Rattle.codec_items.specs.declared.Got.TheVariants.{One}
-use Rattle.codec_items.specs.Items.{item_at, walk_from, after_item, no_item, no_items_is}
+use Rattle.codec_items.specs.Items.{Items, item_at, walk_from, after_item, no_item, no_items_is}
+use Rattle.codec_items.proofs.Forms.{met}
 use Rattle.codec_encoding.specs.Write.{item_octets, items_octets, followed, FitItem, FitItems}
 use Rattle.law_reads_back.specs.ReadsBack.{lead, item_placed, items_placed}
 use Rattle.law_reads_back.proofs.Bits.{pick_true}
@@ -27,14 +26,14 @@ module _ (s pre y rest : List ℕ) (con : Bool) (it : Item) (fits : FitItem s it
   read' = set read (16 - suc k) (item_placed (length pre) it)
 
   walk_one : walk_from (suc k) (pre ++ ((x ++ y) ++ rest)) (length pre) read
-      ≡ pick con (walk_from k ((pre ++ x) ++ (y ++ rest)) (length (pre ++ x)) read') (record { verdict = Sound; count = 17 - suc k; end = length (pre ++ x); list = read' })
+      ≡ pick con (walk_from k ((pre ++ x) ++ (y ++ rest)) (length (pre ++ x)) read') (record { verdict = Ok tt; count = 17 - suc k; end = length (pre ++ x); list = read' })
   unfolding walk_from
   walk_one =
       let apart : pre ++ ((x ++ y) ++ rest) ≡ pre ++ (x ++ (y ++ rest)) = ap (λ (l : List ℕ). pre ++ l) (append_assoc x y rest) in
       let next : length pre + (lead it.long + it.len) ≡ length (pre ++ x) = omega (arith, length-append pre x, item_length_holds s con it fits) in
       (λ i. after_item (suc k) (walk_from k (apart i)) read (item_at (apart i) (length pre)))
       ∙ ap (after_item (suc k) (walk_from k (pre ++ (x ++ (y ++ rest)))) read) (item_read s con it fits pre (y ++ rest))
-      ∙ (λ i. after_item (suc k) (walk_from k (sym (append_assoc pre x (y ++ rest)) i)) read (One (item_placed (length pre) it) con (next i)))
+      ∙ (λ i. after_item (suc k) (walk_from k (sym (append_assoc pre x (y ++ rest)) i)) read (met (item_placed (length pre) it) con (next i)))
 
   walk_more : con ≡ true → walk_from (suc k) (pre ++ ((x ++ y) ++ rest)) (length pre) read ≡ walk_from k ((pre ++ x) ++ (y ++ rest)) (length (pre ++ x)) read'
   walk_more e = walk_one ∙ pick_true con _ _ e
@@ -44,7 +43,7 @@ all_followed [] = refl
 all_followed (it ∷ l) = refl
 
 pub too_many : (s : List ℕ) (its : List Item) (k : ℕ) (pre rest : List ℕ) (read : List Item) → FitItems s its → length its ≡ k
-    → walk_from k (pre ++ (items_octets s true its ++ rest)) (length pre) read ≡ no_items_is (Bad D4) 0
+    → walk_from k (pre ++ (items_octets s true its ++ rest)) (length pre) read ≡ no_items_is (Err D4) 0
 unfolding items_octets FitItems walk_from
 too_many s [] zero pre rest read f e = refl
 too_many s [] (suc k) pre rest read f e = absurd (omega arith)
@@ -55,7 +54,7 @@ too_many s (it ∷ its) (suc k) pre rest read f e =
 
 -- what the walk makes of items at `at`, where k were permitted
 abbrev walked : List ℕ → ℕ → ℕ → List Item → List Item → Items
-walked s k at read its = record { verdict = Sound; count = 16 - k + length its; end = at + length (items_octets s false its); list = sets read (16 - k) (items_placed at its) }
+walked s k at read its = record { verdict = Ok tt; count = 16 - k + length its; end = at + length (items_octets s false its); list = sets read (16 - k) (items_placed at its) }
 
 walk_read : (s : List ℕ) (it : Item) (its : List Item) (k : ℕ) (pre rest : List ℕ) (read : List Item) → FitItems s (it ∷ its) → length (it ∷ its) ≤ k → k ≤ 16
     → walk_from k (pre ++ (items_octets s false (it ∷ its) ++ rest)) (length pre) read ≡ walked s k (length pre) read (it ∷ its)
@@ -66,7 +65,7 @@ walk_read s it [] (suc k) pre rest read f a b =
     let n : 17 - suc k ≡ 16 - suc k + 1 = omega arith in
     let e : length (pre ++ x) ≡ length pre + length (x ++ []) = omega (arith, length-append pre x, length-append x []) in
     walk_one s pre [] rest false it f.0 k read
-    ∙ (λ i. record { verdict = Sound; count = n i; end = e i; list = set read (16 - suc k) (item_placed (length pre) it) })
+    ∙ (λ i. record { verdict = Ok tt; count = n i; end = e i; list = set read (16 - suc k) (item_placed (length pre) it) })
 walk_read s it (it₂ ∷ l) (suc k) pre rest read f a b =
     let x : List ℕ = item_octets s true it in
     let y : List ℕ = items_octets s false (it₂ ∷ l) in
@@ -77,7 +76,7 @@ walk_read s it (it₂ ∷ l) (suc k) pre rest read f a b =
     let at : length (pre ++ x) ≡ length pre + (lead it.long + it.len) = omega (arith, length-append pre x, item_length_holds s true it f.0) in
     walk_one s pre y rest true it f.0 k read
     ∙ walk_read s it₂ l k (pre ++ x) rest read' f.1 (omega arith) (omega arith)
-    ∙ (λ i. record { verdict = Sound; count = n i; end = e i; list = sets read' (from i) (items_placed (at i) (it₂ ∷ l)) })
+    ∙ (λ i. record { verdict = Ok tt; count = n i; end = e i; list = sets read' (from i) (items_placed (at i) (it₂ ∷ l)) })
 
 pub length_placed : (at : ℕ) (its : List Item) → length (items_placed at its) ≡ length its
 unfolding items_placed
@@ -93,7 +92,7 @@ drop_replicate n m it h =
 -- the items at `at`, and no item after them
 abbrev pub items_found : List ℕ → ℕ → List Item → Items
 items_found s at its =
-    record { verdict = Sound; count = length its; end = at + length (items_octets s false its); list = items_placed at its ++ replicate (16 - length its) no_item }
+    record { verdict = Ok tt; count = length its; end = at + length (items_octets s false its); list = items_placed at its ++ replicate (16 - length its) no_item }
 
 pub items_read : (s : List ℕ) (its : List Item) (pre rest : List ℕ) → FitItems s its → 0 < length its → length its ≤ 16
     → walk_from 16 (pre ++ (items_octets s false its ++ rest)) (length pre) (replicate 16 no_item) ≡ items_found s (length pre) its
@@ -107,4 +106,4 @@ items_read s (it ∷ its) pre rest f g h =
     ∙ ap (λ (j : ℕ). new ++ drop j (replicate 16 no_item)) size
     ∙ ap (λ (j : List Item). new ++ j) (drop_replicate (length (it ∷ its)) 16 no_item h) in
     walk_read s it its 16 pre rest (replicate 16 no_item) f h (omega arith)
-    ∙ (λ i. record { verdict = Sound; count = n i; end = length pre + length (items_octets s false (it ∷ its)); list = l i })
+    ∙ (λ i. record { verdict = Ok tt; count = n i; end = length pre + length (items_octets s false (it ∷ its)); list = l i })

@@ -8,23 +8,23 @@ use lib.ListN.{get_or}
 use lib.Dec.{ltb, eqb}
 use Rattle.base_lists.specs.Seq.{pick, bit}
 use Rattle.base_lists.proofs.StoresAndParts.{bit_le}
-use Rattle.base_numbers.specs.declared.Malformed.{Malformed}
 use Rattle.base_numbers.specs.declared.Malformed.TheVariants.{D5, D6}
-use Rattle.base_numbers.specs.declared.Verdict.{Verdict}
-use Rattle.base_numbers.specs.declared.Verdict.TheVariants.{Sound, Bad}
+use Rattle.base_numbers.specs.declared.Malformed.{Malformed}
+use Rattle.std.specs.Prelude.{Ok, Err}
 use Rattle.codec_pdu.specs.declared.Kind.{Kind}
 use Rattle.codec_pdu.specs.declared.Kind.TheVariants.{Invoke, Result, Ack, Abort, SegInvoke, SegResult, Nack, Wrong, Refused}
 use Rattle.codec_reading.specs.Read.{kind_of, flag, lowest}
 use Rattle.codec_encoding.specs.Write.{type_number, flags_of, extra_of, three, kind_fault, FitKind}
+use Rattle.codec_items.specs.Items.{Verdict}
 use Rattle.law_reads_back.specs.ReadsBack.{kind_at}
 use Rattle.law_reads_back.proofs.Bits.{bit_is, low_bit}
 
 -- the kind that is read, by the fault of what was written
 abbrev pub kind_by : Verdict → Kind → Kind
-kind_by (Bad d) k = Wrong d
-kind_by Sound k = kind_at 4 k
+kind_by (Err d) k = Wrong d
+kind_by (Ok tt) k = kind_at 4 k
 
-by_test : (b : Bool) (d : Malformed) (k : Kind) → pick b (Wrong d) (kind_at 4 k) ≡ kind_by (pick b (Bad d) Sound) k
+by_test : (b : Bool) (d : Malformed) (k : Kind) → pick b (Wrong d) (kind_at 4 k) ≡ kind_by (pick b (Err d) (Ok tt)) k
 by_test true d k = refl
 by_test false d k = refl
 

@@ -10,11 +10,10 @@ use lib.Seq.{take_at}
 use lib.Dec.{ltb, eqb}
 use Rattle.base_lists.specs.Seq.{pick, part}
 use Rattle.base_lists.proofs.StoresAndParts.{length_part, true_false}
-use Rattle.base_numbers.specs.declared.Malformed.{Malformed}
 use Rattle.base_numbers.specs.declared.Malformed.TheVariants.{D4, D7}
-use Rattle.base_numbers.specs.declared.Verdict.{Verdict}
-use Rattle.base_numbers.specs.declared.Verdict.TheVariants.{Sound, Bad}
-use Rattle.codec_items.specs.Items.{no_item}
+use Rattle.base_numbers.specs.declared.Malformed.{Malformed}
+use Rattle.std.specs.Prelude.{Ok, Err}
+use Rattle.codec_items.specs.Items.{Verdict, no_item}
 use Rattle.codec_pdu.specs.Pdu.{bare_of}
 use Rattle.codec_pdu.specs.declared.Pdu.{Pdu}
 use Rattle.codec_reading.specs.Read.{pdu_of}
@@ -25,30 +24,30 @@ use Rattle.law_reads_back.proofs.ItemsBack.{length_placed}
 use Rattle.law_reads_back.proofs.WouldRead.{user_fault, few_length, sound_read}
 use Rattle.law_reads_back.proofs.PartsBack.{item_parts, nack_part, user_part_holds}
 
-bad_sound : {A : Type 0} (d : Malformed) → Bad d ≡ Sound → A
-bad_sound d e = let z : ◌≡◌ {A = ℕ} 0 1 = cc in absurd (omega arith)
+bad_sound : {A : Type 0} (d : Malformed) → ◌≡◌ {A = Verdict} (Err d) (Ok tt) → A
+bad_sound d e = absurd cc
 
-or_sound : (v w : Verdict) → or_else v w ≡ Sound → w ≡ Sound
-or_sound (Bad d) w e = bad_sound d e
-or_sound Sound w e = e
+or_sound : (v w : Verdict) → or_else v w ≡ Ok tt → w ≡ Ok tt
+or_sound (Err d) w e = bad_sound d e
+or_sound (Ok tt) w e = e
 
-few_sound : (more : Bool) (d : Malformed) (v : Verdict) → pick more (Bad d) v ≡ Sound → (more ≡ false) × (v ≡ Sound)
+few_sound : (more : Bool) (d : Malformed) (v : Verdict) → pick more (Err d) v ≡ Ok tt → (more ≡ false) × (v ≡ Ok tt)
 few_sound true d v e = bad_sound d e
 few_sound false d v e = (refl, e)
 
-bare_sound : (bare none : Bool) (d : Malformed) → pick bare (pick none Sound (Bad d)) Sound ≡ Sound → bare ≡ true → none ≡ true
+bare_sound : (bare none : Bool) (d : Malformed) → ◌≡◌ {A = Verdict} (pick bare (pick none (Ok tt) (Err d)) (Ok tt)) (Ok tt) → bare ≡ true → none ≡ true
 bare_sound true true d e b = refl
 bare_sound true false d e b = bad_sound d e
 bare_sound false none d e b = true_false (sym b)
 
 -- at most 16 items, and no user data where there may be none
-pub sound_fields : (p : Pdu) → fault_of p ≡ Sound → (ltb 16 p.count ≡ false) × (bare_of p.kind ≡ true → p.len ≡ 0)
+pub sound_fields : (p : Pdu) → fault_of p ≡ Ok tt → (ltb 16 p.count ≡ false) × (bare_of p.kind ≡ true → p.len ≡ 0)
 unfolding fault_of rest_fault
 sound_fields p e =
     let few = few_sound (ltb 16 p.count) D4 (user_fault p) (or_sound (kind_fault p.kind) (rest_fault p) e) in
     (few.0, λ b. eqb-true p.len 0 (bare_sound (bare_of p.kind) (eqb p.len 0) D7 few.1 b))
 
-meaning_placed : (s : List ℕ) (p : Pdu) → Fit s p → fault_of p ≡ Sound → meaning_of (octets_of s p) (placed s p) ≡ meaning_of s p
+meaning_placed : (s : List ℕ) (p : Pdu) → Fit s p → fault_of p ≡ Ok tt → meaning_of (octets_of s p) (placed s p) ≡ meaning_of s p
 unfolding octets_of placed meaning_of
 meaning_placed s p fits sound =
     let header : List ℕ = header_of_is s (ltb 0 p.count) p.kind p.tid in
@@ -71,10 +70,10 @@ meaning_placed s p fits sound =
     user_same header x true b = let z : p.len ≡ 0 = (sound_fields p sound).1 b in rw z
     user_same header x false b = user_part_holds header x (part s p.start p.len) p.len (length_part s p.start p.len fits.user_fits)
 
-pub reads_itself : (s : List ℕ) (p : Pdu) → Fit s p → fault_of p ≡ Sound → length (octets_of s p) ≤ 1500 → meaning_of (octets_of s p) (pdu_of (octets_of s p)) ≡ meaning_of s p
+pub reads_itself : (s : List ℕ) (p : Pdu) → Fit s p → fault_of p ≡ Ok tt → length (octets_of s p) ≤ 1500 → meaning_of (octets_of s p) (pdu_of (octets_of s p)) ≡ meaning_of s p
 reads_itself s p fits sound h = ap (meaning_of (octets_of s p)) (sound_read s p fits sound h) ∙ meaning_placed s p fits sound
 
-pub one_reading : (s : List ℕ) (p : Pdu) (s₂ : List ℕ) (q : Pdu) → Fit s p → Fit s₂ q → fault_of p ≡ Sound → fault_of q ≡ Sound → length (octets_of s p) ≤ 1500
+pub one_reading : (s : List ℕ) (p : Pdu) (s₂ : List ℕ) (q : Pdu) → Fit s p → Fit s₂ q → fault_of p ≡ Ok tt → fault_of q ≡ Ok tt → length (octets_of s p) ≤ 1500
     → octets_of s p ≡ octets_of s₂ q → meaning_of s p ≡ meaning_of s₂ q
 one_reading s p s₂ q fits fits₂ sound sound₂ h e =
     sym (reads_itself s p fits sound h) ∙ ap (λ (o : List ℕ). meaning_of o (pdu_of o)) e ∙ reads_itself s₂ q fits₂ sound₂ (omega (arith, ap length e))

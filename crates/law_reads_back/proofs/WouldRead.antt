@@ -11,10 +11,9 @@ use lib.Dec.{ltb, eqb}
 use Rattle.base_lists.specs.Seq.{pick, part}
 use Rattle.base_lists.proofs.StoresAndParts.{length_part}
 use Rattle.base_numbers.specs.declared.Malformed.TheVariants.{D4, D7}
-use Rattle.base_numbers.specs.declared.Verdict.{Verdict}
-use Rattle.base_numbers.specs.declared.Verdict.TheVariants.{Sound, Bad}
+use Rattle.std.specs.Prelude.{Ok, Err}
 use Rattle.codec_items.specs.declared.Item.{Item}
-use Rattle.codec_items.specs.Items.{walk_from, no_item, no_items_is}
+use Rattle.codec_items.specs.Items.{Verdict, walk_from, no_item, no_items_is}
 use Rattle.codec_pdu.specs.Pdu.{sound_of, bare_of, blank_pdu}
 use Rattle.codec_pdu.specs.declared.Kind.TheVariants.{Wrong}
 use Rattle.codec_pdu.specs.declared.Pdu.{Pdu}
@@ -29,7 +28,7 @@ use Rattle.law_reads_back.proofs.HeaderBack.{head_by, header_read}
 
 -- the fault of user data where there may be none
 abbrev pub user_fault : Pdu → Verdict
-user_fault p = pick (bare_of p.kind) (pick (eqb p.len 0) Sound (Bad D7)) Sound
+user_fault p = pick (bare_of p.kind) (pick (eqb p.len 0) (Ok tt) (Err D7)) (Ok tt)
 
 module _ (s : List ℕ) (p : Pdu) (fits : Fit s p) where
   abbrev its : List Item
@@ -60,7 +59,7 @@ module _ (s : List ℕ) (p : Pdu) (fits : Fit s p) where
   unfolding items_after
   by_walk b e c = pick_true con _ _ c ∙ ap (λ (m : Bool). walk_from 16 (header ++ (items_octets s m its ++ user)) (length header) (replicate 16 no_item)) e
 
-  many_items : last ≡ true → items_after octets head ≡ no_items_is (Bad D4) 0
+  many_items : last ≡ true → items_after octets head ≡ no_items_is (Err D4) 0
   many_items e =
       let more : 16 < p.count = ltb-true 16 p.count e in
       let size : length its ≡ 16 = ap length (take_all p.count p.list (omega (arith, fits.list_full))) ∙ fits.list_full in
@@ -79,7 +78,7 @@ module _ (s : List ℕ) (p : Pdu) (fits : Fit s p) where
           let none : its ≡ [] = ap (λ (n : ℕ). take n p.list) zero_items in
           let end : length header ≡ length header + 0 = omega arith in
           pick_false con _ _ c
-          ∙ (λ i. record { verdict = Sound; count = 0; end = end i; list = replicate 16 no_item })
+          ∙ (λ i. record { verdict = Ok tt; count = 0; end = end i; list = replicate 16 no_item })
           ∙ ap (items_found s (length header)) (sym none)
 
   -- the PDU as it is read, with user data of n octets at `start`
@@ -114,7 +113,7 @@ module _ (s : List ℕ) (p : Pdu) (fits : Fit s p) where
       ∙ go (bare_of p.kind) refl (eqb p.len 0) refl
     where
       go : (b : Bool) → bare_of p.kind ≡ b → (z : Bool) → eqb p.len 0 ≡ z
-          → pick b (pick z (got 0 0) (blank_pdu (Wrong D7))) (got (length header + length (items_octets s false its)) p.len) ≡ read_by (pick b (pick z Sound (Bad D7)) Sound) s p
+          → pick b (pick z (got 0 0) (blank_pdu (Wrong D7))) (got (length header + length (items_octets s false its)) p.len) ≡ read_by (pick b (pick z (Ok tt) (Err D7)) (Ok tt)) s p
       go true b true z = got_placed e 0 0 (rw b) (sym (eqb-true p.len 0 z))
       go true b false z = refl
       go false b z w = got_placed e (length header + length (items_octets s false its)) p.len (rw (b, e)) refl
@@ -123,14 +122,14 @@ module _ (s : List ℕ) (p : Pdu) (fits : Fit s p) where
   unfolding finished rest_fault
   rest_read = go last refl
     where
-      go : (b : Bool) → last ≡ b → finished octets head (items_after octets head) ≡ read_by (pick b (Bad D4) (user_fault p)) s p
+      go : (b : Bool) → last ≡ b → finished octets head (items_after octets head) ≡ read_by (pick b (Err D4) (user_fault p)) s p
       go true e = ap (finished octets head) (many_items e)
       go false e = ap (finished octets head) (few_items e) ∙ user_read e
 
   after_read : (v : Verdict) → kind_fault p.kind ≡ v → after_head octets (head_by con p.kind p.tid (length header)) ≡ read_as_is s p
   unfolding after_head sound_of read_as_is fault_of
-  after_read (Bad d) e = rw e
-  after_read Sound e = rw e (pick_true (sound_of (kind_at 4 p.kind)) _ _ (sound_kind s p.kind 4 fits.kind_fits) ∙ rest_read)
+  after_read (Err d) e = rw e
+  after_read (Ok tt) e = rw e (pick_true (sound_of (kind_at 4 p.kind)) _ _ (sound_kind s p.kind 4 fits.kind_fits) ∙ rest_read)
 
 pub read_on : (s : List ℕ) → 1 ≤ length s → length s ≤ 1500 → pdu_of s ≡ after_head s (head_of s)
 unfolding pdu_of
@@ -144,6 +143,6 @@ would_read s p fits h =
     ∙ after_read s p fits (kind_fault p.kind) refl
 
 -- what can be written is never read as malformed
-pub sound_read : (s : List ℕ) (p : Pdu) → Fit s p → fault_of p ≡ Sound → length (octets_of s p) ≤ 1500 → pdu_of (octets_of s p) ≡ placed s p
+pub sound_read : (s : List ℕ) (p : Pdu) → Fit s p → fault_of p ≡ Ok tt → length (octets_of s p) ≤ 1500 → pdu_of (octets_of s p) ≡ placed s p
 unfolding read_as_is
 sound_read s p fits sound h = would_read s p fits h ∙ ap (λ (v : Verdict). read_by v s p) sound

@@ -1,9 +1,7 @@
 -- What a PDU that was written reads back as (01, "Bytes on the air"; demand 2: each PDU we can write reads back as itself).
-use Rattle.std.specs.Prelude.{ℕ, ◌+◌, ◌-◌, List, [], ◌∷◌, ◌++◌, map, Bool, true, false, length, replicate, ltb}
+use Rattle.std.specs.Prelude.{ℕ, ◌+◌, ◌-◌, List, [], ◌∷◌, ◌++◌, map, Bool, true, false, length, replicate, ltb, Ok, Err}
 use Rattle.base_lists.specs.Seq.{pick, part}
-use Rattle.base_numbers.specs.declared.Verdict.{Verdict}
-use Rattle.base_numbers.specs.declared.Verdict.TheVariants.{Sound, Bad}
-use Rattle.codec_items.specs.Items.{no_item}
+use Rattle.codec_items.specs.Items.{Verdict, no_item}
 use Rattle.codec_items.specs.declared.Item.{Item}
 use Rattle.codec_pdu.specs.Pdu.{bare_of, blank_pdu}
 use Rattle.codec_pdu.specs.declared.Kind.{Kind}
@@ -58,8 +56,8 @@ placed s p = record {
 
 -- what p reads as, by the fault of its fields: malformed, or p
 abbrev pub read_by : Verdict → List ℕ → Pdu → Pdu
-read_by (Bad d) s p = blank_pdu (Wrong d)
-read_by Sound s p = placed s p
+read_by (Err d) s p = blank_pdu (Wrong d)
+read_by (Ok tt) s p = placed s p
 
 -- 01: "The writer answers the same for fields that would read so": what p, once written, reads as
 unfoldable pub read_as_is : List ℕ → Pdu → Pdu

@@ -9,12 +9,11 @@ use lib.ListN.{length, get_or, get_or-eq_default}
 use lib.Dec.{ltb, eqb}
 use Rattle.base_lists.specs.Seq.{pick}
 use Rattle.base_lists.proofs.StoresAndParts.{true_false, lt_or_le}
-use Rattle.base_numbers.specs.declared.Malformed.{Malformed}
 use Rattle.base_numbers.specs.declared.Malformed.TheVariants.{D1, D2, D5, D6, D7}
+use Rattle.base_numbers.specs.declared.Malformed.{Malformed}
 use Rattle.base_numbers.specs.declared.Refusal.TheVariants.{WrongLength}
-use Rattle.base_numbers.specs.declared.Verdict.{Verdict}
-use Rattle.base_numbers.specs.declared.Verdict.TheVariants.{Sound, Bad}
-use Rattle.codec_items.specs.declared.Items.{Items}
+use Rattle.std.specs.Prelude.{Ok, Err}
+use Rattle.codec_items.specs.Items.{Verdict, Items}
 use Rattle.codec_pdu.specs.Pdu.{sound_of, bare_of, blank_pdu}
 use Rattle.codec_pdu.specs.declared.Kind.{Kind}
 use Rattle.codec_pdu.specs.declared.Kind.TheVariants.{Invoke, Result, Ack, Abort, SegInvoke, SegResult, Nack, Wrong, Refused}
@@ -95,8 +94,8 @@ module _ (b : List ℕ) (octets : Octets b) where
   tame_blank k p = p
 
   tame_finish : (v : Verdict) (h : Head) (i : Items) → Tame h.kind → Tame (finish_by v b h i).kind
-  tame_finish (Bad d) h i p = tame_blank (Wrong d) (tame_wrong d)
-  tame_finish Sound h i p = go (bare_of h.kind) (eqb (length b - i.end) 0)
+  tame_finish (Err d) h i p = tame_blank (Wrong d) (tame_wrong d)
+  tame_finish (Ok tt) h i p = go (bare_of h.kind) (eqb (length b - i.end) 0)
     where
       go : (bare none : Bool) → Tame (pick bare (pick none (whole h i 0 0) (blank_pdu (Wrong D7))) (whole h i i.end (length b - i.end))).kind
       go true true = p

@@ -6,10 +6,8 @@ use mathlib.Core.List.{List}
 use mathlib.Core.Bool.{Bool, true, false}
 use lib.ListN.{length, get_or, replicate}
 use lib.Dec.{leb}
-use Rattle.base_numbers.specs.declared.Verdict.{Verdict}
-use Rattle.base_numbers.specs.declared.Verdict.TheVariants.{Sound, Bad}
-use Rattle.codec_items.specs.declared.Items.{Items}
-use Rattle.codec_items.specs.Items.{no_item}
+use Rattle.std.specs.Prelude.{Ok, Err}
+use Rattle.codec_items.specs.Items.{Verdict, Items, no_item}
 use Rattle.codec_pdu.specs.Pdu.{sound_of}
 use Rattle.codec_reading.specs.declared.Head.{Head}
 use Rattle.codec_reading.specs.Read.{type_of, finish_by, finished, after_head, pdu_of, items_after}
@@ -28,8 +26,8 @@ use Rattle.law_writes_back.proofs.HeaderAgain.{HeaderAgain, again_of_holds, four
 
 -- of the octets after the items only the number counts
 finish_same : (v : Verdict) (s c : List ℕ) (h : Head) (i : Items) → length s ≡ length c → finish_by v s h i ≡ finish_by v c h i
-finish_same (Bad d) s c h i e = refl
-finish_same Sound s c h i e = rw e
+finish_same (Err d) s c h i e = refl
+finish_same (Ok tt) s c h i e = rw e
 
 module _ (b : List ℕ) (octets : Octets b) (sound : sound_of (pdu_of b).kind ≡ true) where
   abbrev v : View b

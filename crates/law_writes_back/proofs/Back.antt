@@ -10,7 +10,8 @@ use lib.Seq.{take-append_seam}
 use lib.Dec.{ltb, eqb}
 use Rattle.base_lists.specs.Seq.{pick}
 use Rattle.base_numbers.specs.declared.Malformed.TheVariants.{D7}
-use Rattle.base_numbers.specs.declared.Verdict.TheVariants.{Sound, Bad}
+use Rattle.codec_items.specs.Items.{Verdict}
+use Rattle.std.specs.Prelude.{Ok, Err}
 use Rattle.codec_pdu.specs.declared.Pdu.{Pdu}
 use Rattle.codec_pdu.specs.Pdu.{sound_of, bare_of}
 use Rattle.codec_reading.specs.Read.{type_of, whole, pdu_of}
@@ -63,13 +64,13 @@ module _ (b : List ℕ) (octets : Octets b) (sound : sound_of (pdu_of b).kind �
     user_fits = v.user_fits;
   }
 
-  fault_free : fault_of p ≡ Sound
+  fault_free : fault_of p ≡ Ok tt
   unfolding fault_of rest_fault
   fault_free =
       let n : (found b).count ≤ 16 = omega (arith, i.counted, i.few) in
       rw (h.sound, le-ltb 16 (found b).count n) (go (bare_of (header b).kind) refl)
     where
-      go : (t : Bool) → bare_of (header b).kind ≡ t → pick t (pick (eqb v.len 0) Sound (Bad D7)) Sound ≡ Sound
+      go : (t : Bool) → bare_of (header b).kind ≡ t → ◌≡◌ {A = Verdict} (pick t (pick (eqb v.len 0) (Ok tt) (Err D7)) (Ok tt)) (Ok tt)
       go true e = rw (v.bare e).1
       go false e = refl
 

@@ -10,8 +10,7 @@ use lib.ListN.{length, get_or, take, drop, replicate, take-append-drop}
 use lib.Seq.{sets, sets-eq}
 use lib.Dec.{leb, ltb}
 use Rattle.codec_items.specs.declared.Item.{Item}
-use Rattle.codec_items.specs.declared.Items.{Items}
-use Rattle.codec_items.specs.Items.{no_item, walk_from}
+use Rattle.codec_items.specs.Items.{Items, no_item, walk_from}
 use Rattle.codec_pdu.specs.Pdu.{sound_of}
 use Rattle.codec_reading.specs.Read.{type_of, pdu_of}
 use Rattle.codec_encoding.specs.Write.{items_octets, FitItems}

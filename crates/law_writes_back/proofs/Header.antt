@@ -10,7 +10,7 @@ use mathlib.Core.Logic.{◌⊎◌, inl, inr}
 use lib.ListN.{length, get_or, take, drop}
 use lib.Dec.{leb, ltb, eqb}
 use Rattle.base_lists.specs.Seq.{pick}
-use Rattle.base_numbers.specs.declared.Verdict.TheVariants.{Sound}
+use Rattle.std.specs.Prelude.{Ok}
 use Rattle.codec_pdu.specs.declared.Kind.{Kind}
 use Rattle.codec_reading.specs.Read.{type_of, kind_of}
 use Rattle.codec_encoding.specs.Write.{type_number, flags_of, extra_of, header_of_is, FitKind, kind_fault}
@@ -29,7 +29,7 @@ pub record HeaderBack (t : ℕ) (b : List ℕ) : Type 0 where
   pub written : header_of_is b (leb 128 (get_or b 0 0)) (kind_as t b) (get_or b 1 0 * 256 + get_or b 2 0) ≡ take (header_length t (get_or b 3 0)) (clear_header t b)
   pub agree : Agree (header_length t (get_or b 3 0)) (clear_header t b) b
   pub fits : FitKind b (kind_as t b)
-  pub sound : kind_fault (kind_as t b) ≡ Sound
+  pub sound : kind_fault (kind_as t b) ≡ Ok tt
 
 same : {a a' h h' l l' : ℕ} {e e' : List ℕ} → a ≡ a' → h ≡ h' → l ≡ l' → e ≡ e' → ◌≡◌ {A = List ℕ} (a ∷ h ∷ l ∷ e) (a' ∷ h' ∷ l' ∷ e')
 same p q r s = cc
@@ -39,7 +39,7 @@ back : {t : ℕ} {b : List ℕ}
     → length (clear_header t b) ≡ length b
     → drop (header_length t (get_or b 3 0)) (clear_header t b) ≡ drop (header_length t (get_or b 3 0)) b
     → FitKind b (kind_as t b)
-    → kind_fault (kind_as t b) ≡ Sound
+    → kind_fault (kind_as t b) ≡ Ok tt
     → HeaderBack t b
 back w l d f s = record { written = w; agree = record { long = l; from = d }; fits = f; sound = s }
 

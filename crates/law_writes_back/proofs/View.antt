@@ -12,7 +12,7 @@ use lib.Dec.{eqb}
 use Rattle.base_lists.specs.Seq.{part}
 use Rattle.base_lists.proofs.StoresAndParts.{true_false}
 use Rattle.base_numbers.specs.declared.Malformed.TheVariants.{D7}
-use Rattle.base_numbers.specs.declared.Verdict.TheVariants.{Sound}
+use Rattle.std.specs.Prelude.{Ok}
 use Rattle.codec_pdu.specs.declared.Kind.TheVariants.{Wrong}
 use Rattle.codec_pdu.specs.declared.Pdu.{Pdu}
 use Rattle.codec_pdu.specs.Pdu.{sound_of, bare_of, blank_pdu}
@@ -33,7 +33,7 @@ pub record View (b : List ℕ) : Type 0 where
   pub type_right : WrongType b → ⊥
   pub header_whole : fixed_length b ≤ length b
   pub header_sound : sound_of (header b).kind ≡ true
-  pub items_sound : (found b).verdict ≡ Sound
+  pub items_sound : (found b).verdict ≡ Ok tt
   pub start : ℕ
   pub len : ℕ
   pub read : pdu_of b ≡ whole (header b) (found b) start len
@@ -58,7 +58,7 @@ module _ (b : List ℕ) (sound : sound_of (pdu_of b).kind ≡ true) where
   abort : AbortTypeOver b → ⊥
   abort = none.1.1.1.1.0
 
-  found_sound : Outcome b (found b) → (found b).verdict ≡ Sound
+  found_sound : Outcome b (found b) → (found b).verdict ≡ Ok tt
   unfolding Outcome
   found_sound (inl o) = absurd (none.1.1.1.1.1.0 o.1)
   found_sound (inr (inl o)) = absurd (none.1.1.1.1.1.1.0 o.1)
@@ -67,7 +67,7 @@ module _ (b : List ℕ) (sound : sound_of (pdu_of b).kind ≡ true) where
   good : Good (type_of b) (header b).kind
   good = header_good b right class abort
 
-  verdict : (found b).verdict ≡ Sound
+  verdict : (found b).verdict ≡ Ok tt
   verdict = found_sound (found_outcome b)
 
   read_as : pdu_of b ≡ finished b (header b) (found b)

@@ -12,14 +12,12 @@ use lib.Seq.{drop-cons, sets}
 use lib.Dec.{ltb}
 use Rattle.base_lists.specs.Seq.{pick}
 use Rattle.base_numbers.specs.declared.Malformed.TheVariants.{D3, D4}
-use Rattle.base_numbers.specs.declared.Verdict.TheVariants.{Sound}
+use Rattle.std.specs.Prelude.{Option, Some, None, Ok}
 use Rattle.codec_items.specs.declared.Item.{Item}
-use Rattle.codec_items.specs.declared.Items.{Items}
 use Rattle.codec_items.specs.declared.Got.{Got}
-use Rattle.codec_items.specs.declared.Got.TheVariants.{One, Cut}
-use Rattle.codec_items.specs.Items.{item_at, after_item, walk_from}
+use Rattle.codec_items.specs.Items.{Items, item_at, after_item, walk_from}
 use Rattle.codec_items.specs.Forms.{Short, Long}
-use Rattle.codec_items.proofs.Forms.{item_forms}
+use Rattle.codec_items.proofs.Forms.{met, item_forms}
 use Rattle.codec_encoding.specs.Write.{item_octets, items_octets, FitItem, FitItems}
 use Rattle.law_reading_order.proofs.Judged.{bad_sound}
 use Rattle.law_reading_order.proofs.Places.{Told, item_told_holds}
@@ -43,9 +41,9 @@ module _ (b : List ℕ) (octets : Octets b) where
     fit : FitItem b it
     written : item_octets b con it ≡ clear_form (get_or b at 0) ∷ take more (drop (suc at) b)
 
-  item_back : (at : ℕ) (it : Item) (con : Bool) (next : ℕ) → item_at b at ≡ One it con next → ItemBack at it con next
+  item_back : (at : ℕ) (it : Item) (con : Bool) (next : ℕ) → item_at b at ≡ met it con next → ItemBack at it con next
   unfolding item_octets
-  item_back at it con next e = go (item_forms b at it con next e)
+  item_back at it con next e = go (item_forms b at _ e)
     where
       go : Short b at it con next ⊎ Long b at it con next → ItemBack at it con next
       go (inl f) = record {
@@ -74,7 +72,7 @@ module _ (b : List ℕ) (octets : Octets b) where
     pub written : (c : List ℕ) → Agree at c b → clear_items k c at ≡ take at c ++ (items_octets b false (first ∷ others) ++ drop w.end b)
 
   -- the first item of a walk, then the octets `rest`
-  step : (k at : ℕ) (it : Item) (con : Bool) (next : ℕ) → item_at b at ≡ One it con next → (c : List ℕ) → Agree at c b → (rest : List ℕ)
+  step : (k at : ℕ) (it : Item) (con : Bool) (next : ℕ) → item_at b at ≡ met it con next → (c : List ℕ) → Agree at c b → (rest : List ℕ)
       → (Agree next (clear_item c at) b → pick con (clear_items k (clear_item c at) next) (clear_item c at) ≡ take next (clear_item c at) ++ rest)
       → clear_items (suc k) c at ≡ take at c ++ (item_octets b con it ++ rest)
   unfolding clear_items
@@ -88,7 +86,7 @@ module _ (b : List ℕ) (octets : Octets b) where
       let after : Agree next (clear_item c at) b = item_agree at c b agree next l (omega (arith, f.ends)) in
       rw (agree_at at c b agree, agree_end at c b agree, ← t.more, ← t.ends) (h after ∙ rw (front, append_assoc))
 
-  last_walked : (k at : ℕ) (read : List Item) (it : Item) (next : ℕ) → suc k ≤ 16 → item_at b at ≡ One it false next → Walked (suc k) at read (after_item (suc k) (walk_from k b) read (One it false next))
+  last_walked : (k at : ℕ) (read : List Item) (it : Item) (next : ℕ) → suc k ≤ 16 → item_at b at ≡ met it false next → Walked (suc k) at read (after_item (suc k) (walk_from k b) read (met it false next))
   unfolding FitItems items_octets
   last_walked k at read it next l q = record {
     first = it;
@@ -100,7 +98,7 @@ module _ (b : List ℕ) (octets : Octets b) where
     written = λ c agree. step k at it false next q c agree (drop next b) (λ after. sym (take-append-drop next (clear_item c at)) ∙ rw after.from) ∙ rw append_assoc;
   }
 
-  more_walked : (k at : ℕ) (read : List Item) (it : Item) (next : ℕ) (w : Items) → suc k ≤ 16 → item_at b at ≡ One it true next → Walked k next (set read (16 - suc k) it) w → Walked (suc k) at read w
+  more_walked : (k at : ℕ) (read : List Item) (it : Item) (next : ℕ) (w : Items) → suc k ≤ 16 → item_at b at ≡ met it true next → Walked k next (set read (16 - suc k) it) w → Walked (suc k) at read w
   unfolding FitItems items_octets
   more_walked k at read it next w l q x =
       let n : 16 - k ≡ suc (16 - suc k) = omega arith in
@@ -115,13 +113,17 @@ module _ (b : List ℕ) (octets : Octets b) where
             ∙ ap (λ (l : List ℕ). take at c ++ l) (sym (append_assoc (item_octets b true it) (items_octets b false (x.first ∷ x.others)) (drop w.end b)));
       }
 
-  pub walk_back : (k at : ℕ) (read : List Item) → k ≤ 16 → (walk_from k b at read).verdict ≡ Sound → Walked k at read (walk_from k b at read)
+  pub walk_back : (k at : ℕ) (read : List Item) → k ≤ 16 → (walk_from k b at read).verdict ≡ Ok tt → Walked k at read (walk_from k b at read)
   unfolding walk_from
   walk_back zero at read l e = bad_sound D4 e
   walk_back (suc k) at read l e = go (walk_back k) (item_at b at) refl e
     where
-      go : ((at : ℕ) (read : List Item) → k ≤ 16 → (walk_from k b at read).verdict ≡ Sound → Walked k at read (walk_from k b at read)) → (g : Got) → item_at b at ≡ g
-          → (after_item (suc k) (walk_from k b) read g).verdict ≡ Sound → Walked (suc k) at read (after_item (suc k) (walk_from k b) read g)
-      go ih Cut q e = bad_sound D3 e
-      go ih (One it false next) q e = last_walked k at read it next l q
-      go ih (One it true next) q e = more_walked k at read it next _ l q (ih next _ (omega arith) e)
+      go : ((at : ℕ) (read : List Item) → k ≤ 16 → (walk_from k b at read).verdict ≡ Ok tt → Walked k at read (walk_from k b at read)) → (g : Option Got) → item_at b at ≡ g
+          → (after_item (suc k) (walk_from k b) read g).verdict ≡ Ok tt → Walked (suc k) at read (after_item (suc k) (walk_from k b) read g)
+      go ih None q e = bad_sound D3 e
+      go ih (Some g) q e = by g.con q e
+        where
+          by : (con : Bool) → item_at b at ≡ met g.item con g.next → (after_item (suc k) (walk_from k b) read (met g.item con g.next)).verdict ≡ Ok tt
+              → Walked (suc k) at read (after_item (suc k) (walk_from k b) read (met g.item con g.next))
+          by false q e = last_walked k at read g.item g.next l q
+          by true q e = more_walked k at read g.item g.next _ l q (ih g.next _ (omega arith) e)

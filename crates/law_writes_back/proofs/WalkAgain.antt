@@ -7,12 +7,13 @@ use mathlib.Core.List.{List}
 use mathlib.Core.Bool.{Bool, true, false}
 use lib.ListN.{length, get_or, set}
 use lib.Seq.{get_or-set_same, get_or-set_other}
+use Rattle.std.specs.Prelude.{Option, Some, None}
 use lib.Dec.{leb, ltb, eqb}
 use Rattle.base_lists.specs.Seq.{pick}
 use Rattle.codec_items.specs.declared.Item.{Item}
 use Rattle.codec_items.specs.declared.Got.{Got}
-use Rattle.codec_items.specs.declared.Got.TheVariants.{One, Cut}
 use Rattle.codec_items.specs.Items.{item_at, after_item, walk_from}
+use Rattle.codec_items.proofs.Forms.{met}
 use Rattle.law_reading_order.specs.Layout.{item_end}
 use Rattle.law_reading_order.proofs.Places.{Told, item_told_holds}
 use Rattle.law_writes_back.specs.WritesBack.{clear_bit, clear_item, clear_items}
@@ -102,13 +103,17 @@ unfolding walk_from
 walk_again zero c b at read g = refl
 walk_again (suc k) c b at read g = ap (after_item (suc k) (walk_from k (clear_items (suc k) c at)) read) (item_again k c at ∙ agree_item at c b g) ∙ go (walk_again k (clear_item c at) b) (item_at b at) refl
   where
-    go : ((at' : ℕ) (read : List Item) → Agree at' (clear_item c at) b → walk_from k (clear_items k (clear_item c at) at') at' read ≡ walk_from k b at' read) → (i : Got) → item_at b at ≡ i
+    go : ((at' : ℕ) (read : List Item) → Agree at' (clear_item c at) b → walk_from k (clear_items k (clear_item c at) at') at' read ≡ walk_from k b at' read) → (i : Option Got) → item_at b at ≡ i
         → after_item (suc k) (walk_from k (clear_items (suc k) c at)) read i ≡ after_item (suc k) (walk_from k b) read i
-    go ih Cut q = refl
-    go ih (One it false next) q = refl
-    go ih (One it true next) q =
-        let t : Told b at true next = item_told_holds b at it true next q in
-        let e : item_end c at ≡ next = agree_end at c b g ∙ sym t.ends in
-        let l : at < next = rw e at (end_after c at) in
-        let m : leb 128 (get_or c at 0) ≡ true = ap (leb 128) (agree_at at c b g) ∙ sym t.more in
-        ap (λ (d : List ℕ). walk_from k d next (set read (16 - suc k) it)) (items_on k c at next m e) ∙ ih next _ (item_agree at c b g next (omega (arith, t.inside, g.long)) l)
+    go ih None q = refl
+    go ih (Some i) q = by i.con q
+      where
+        by : (con : Bool) → item_at b at ≡ met i.item con i.next
+            → after_item (suc k) (walk_from k (clear_items (suc k) c at)) read (met i.item con i.next) ≡ after_item (suc k) (walk_from k b) read (met i.item con i.next)
+        by false q = refl
+        by true q =
+            let t : Told b at true i.next = item_told_holds b at i.item true i.next q in
+            let e : item_end c at ≡ i.next = agree_end at c b g ∙ sym t.ends in
+            let l : at < i.next = rw e at (end_after c at) in
+            let m : leb 128 (get_or c at 0) ≡ true = ap (leb 128) (agree_at at c b g) ∙ sym t.more in
+            ap (λ (d : List ℕ). walk_from k d i.next (set read (16 - suc k) i.item)) (items_on k c at i.next m e) ∙ ih i.next _ (item_agree at c b g i.next (omega (arith, t.inside, g.long)) l)

@@ -1,7 +1,6 @@
 -- 01: "Read then written, a PDU gives its bytes with reserved bits cleared; an item keeps its short or long form".
-use Rattle.std.specs.Prelude.{ℕ, zero, suc, ◌-◌, ◌*◌, ◌/◌, ◌%◌, ◌≤◌, ◌<◌, ◌≡◌, List, ◌++◌, true, length, get_or, set, replicate, leb, eqb}
+use Rattle.std.specs.Prelude.{ℕ, zero, suc, ◌-◌, ◌*◌, ◌/◌, ◌%◌, ◌≤◌, ◌<◌, ◌≡◌, List, ◌++◌, true, length, get_or, set, replicate, leb, eqb, Ok}
 use Rattle.base_lists.specs.Seq.{pick}
-use Rattle.base_numbers.specs.declared.Verdict.TheVariants.{Sound}
 use Rattle.codec_items.specs.Items.{no_item}
 use Rattle.codec_pdu.specs.Pdu.{bare_of}
 use Rattle.codec_reading.specs.Read.{type_of, pdu_of}
@@ -44,7 +43,7 @@ Octets b = (i : ℕ) → i < length b → get_or b i 0 < 256
 pub record Readable (b : List ℕ) : Type 0 where
   pub fits : Fit b (pdu_of b)
   pub few : (pdu_of b).count ≤ 16
-  pub sound : fault_of (pdu_of b) ≡ Sound
+  pub sound : fault_of (pdu_of b) ≡ Ok tt
   pub same_length : length (octets_of b (pdu_of b)) ≡ length b
   pub unused : (pdu_of b).list ≡ items_of (pdu_of b) ++ replicate (16 - (pdu_of b).count) no_item
   pub bare_start : bare_of (pdu_of b).kind ≡ true → (pdu_of b).start ≡ 0

@@ -11,8 +11,7 @@ use Rattle.base_lists.specs.Seq.{pick}
 use Rattle.base_lists.proofs.StoresAndParts.{told, true_false, every_at, some_fails}
 use Rattle.base_numbers.specs.declared.Malformed.TheVariants.{D1, D2, D3, D4, D5, D6, D7}
 use Rattle.base_numbers.specs.declared.Refusal.TheVariants.{WrongLength}
-use Rattle.base_numbers.specs.declared.Verdict.{Verdict}
-use Rattle.base_numbers.specs.declared.Verdict.TheVariants.{Sound, Bad}
+use Rattle.std.specs.Prelude.{Ok, Err}
 use Rattle.codec_items.specs.declared.Item.{Item}
 use Rattle.codec_pdu.specs.Pdu.{bare_of, blank_pdu}
 use Rattle.codec_pdu.specs.declared.Kind.{Kind}
@@ -21,6 +20,7 @@ use Rattle.codec_pdu.specs.declared.Pdu.{Pdu}
 use Rattle.codec_said.specs.Said.{word, kind_said, item_said, items_said, pdu_said}
 use Rattle.codec_said.proofs.ByType.{said_invoke, said_result, said_ack, said_abort, said_seg_invoke, said_seg_result, said_nack}
 use Rattle.codec_encoding.specs.Write.{or_else, kind_fault, rest_fault}
+use Rattle.codec_items.specs.Items.{Verdict}
 use Rattle.codec_verdict.specs.Length.{placed, length_said}
 use Rattle.codec_verdict.specs.Widths.{widths, widest, narrow_at, none_too_wide, inside, fits}
 use Rattle.codec_verdict.specs.Judge.{item_inside, items_inside, fault_in, ruled, judged_of}
@@ -71,7 +71,7 @@ module _ (w : List ℕ) (n : ℕ) where
   rest_first t = go (told (ltb 16 (word w 15))) (told (bare_of (kind_said w))) (told (eqb (word w 17) 0))
     where
       go : (ltb 16 (word w 15) ≡ true) ⊎ (ltb 16 (word w 15) ≡ false) → (bare_of (kind_said w) ≡ true) ⊎ (bare_of (kind_said w) ≡ false) → (eqb (word w 17) 0 ≡ true) ⊎ (eqb (word w 17) 0 ≡ false)
-          → FirstOf (rest_reasons w) p (ruled (pick (ltb 16 (word w 15)) (Bad D4) (pick (bare_of (kind_said w)) (pick (eqb (word w 17) 0) Sound (Bad D7)) Sound)) p)
+          → FirstOf (rest_reasons w) p (ruled (pick (ltb 16 (word w 15)) (Err D4) (pick (bare_of (kind_said w)) (pick (eqb (word w 17) 0) (Ok tt) (Err D7)) (Ok tt))) p)
       go (inl a) b c = inl (ltb-true 16 (word w 15) a, rw a)
       go (inr a) (inl b) (inl c) = inr ((tells_lt 16 (word w 15)).1 a, inr ((λ d. omega (arith, d.1, eqb-true (word w 17) 0 c)), rw (a, b, c)))
       go (inr a) (inl b) (inr c) = inr ((tells_lt 16 (word w 15)).1 a, inl (((bare_told t).0 b, positive (word w 17) (eqb-false (word w 17) 0 c)), rw (a, b, c)))
@@ -98,19 +98,19 @@ module _ (w : List ℕ) (n : ℕ) where
       = subst (λ (it : Item). inside n it.start it.len ≡ true) (said_at w k x.1) (every_at (item_inside n (items_said w)) (placed (word w 15)) e k (omega (arith, x.1, x.2))) in
       omega (arith, x.3, leb-true (word w (24 + 4 * k + 2) + word w (24 + 4 * k + 3)) n lies)
 
-  items_first : Typed (word w 0) → FirstOf (item_reasons w n) p (ruled (pick (items_inside n (items_said w) (word w 15)) (rest_fault p) (Bad D3)) p)
+  items_first : Typed (word w 0) → FirstOf (item_reasons w n) p (ruled (pick (items_inside n (items_said w) (word w 15)) (rest_fault p) (Err D3)) p)
   items_first t = go (told (items_inside n (items_said w) (word w 15)))
     where
       go : (items_inside n (items_said w) (word w 15) ≡ true) ⊎ (items_inside n (items_said w) (word w 15) ≡ false)
-          → FirstOf (item_reasons w n) p (ruled (pick (items_inside n (items_said w) (word w 15)) (rest_fault p) (Bad D3)) p)
+          → FirstOf (item_reasons w n) p (ruled (pick (items_inside n (items_said w) (word w 15)) (rest_fault p) (Err D3)) p)
       go (inl e) = rw e (inr (past_not e, rest_first t))
       go (inr e) = rw e (inl (past_told e, refl))
 
   -- D5 and D6: what a verdict on the kind tells
   abbrev KindTold : Verdict → Type 0
-  KindTold v = (ClassThree w × (v ≡ Bad D5)) ⊎ ((ClassThree w → ⊥) × ((AbortTypeOver w × (v ≡ Bad D6)) ⊎ ((AbortTypeOver w → ⊥) × (v ≡ Sound))))
+  KindTold v = (ClassThree w × (v ≡ Err D5)) ⊎ ((ClassThree w → ⊥) × ((AbortTypeOver w × (v ≡ Err D6)) ⊎ ((AbortTypeOver w → ⊥) × (v ≡ Ok tt))))
 
-  neither : (t : ℕ) → word w 0 ≡ t → (t ≡ 1 → ⊥) → (t ≡ 4 → ⊥) → KindTold Sound
+  neither : (t : ℕ) → word w 0 ≡ t → (t ≡ 1 → ⊥) → (t ≡ 4 → ⊥) → KindTold (Ok tt)
   neither t e a b = inr ((λ c. a (sym e ∙ c.0)), inr ((λ c. b (sym e ∙ c.0)), refl))
 
   kind_told : Typed (word w 0) → Fitting w n → KindTold (kind_fault (kind_said w))
@@ -120,7 +120,7 @@ module _ (w : List ℕ) (n : ℕ) where
       class : word w 8 ≤ 3
       class = at_type w n f 8 1 (omega arith) e
 
-      go : (eqb (word w 8 % 256) 3 ≡ true) ⊎ (eqb (word w 8 % 256) 3 ≡ false) → KindTold (pick (eqb (word w 8 % 256) 3) (Bad D5) Sound)
+      go : (eqb (word w 8 % 256) 3 ≡ true) ⊎ (eqb (word w 8 % 256) 3 ≡ false) → KindTold (pick (eqb (word w 8 % 256) 3) (Err D5) (Ok tt))
       go (inl q) = rw q (inl ((e, omega (arith, class, eqb-true (word w 8 % 256) 3 q)), refl))
       go (inr q) = rw q (inr ((λ c. eqb-false (word w 8 % 256) 3 q (omega (arith, class, c.1))), inr ((λ c. omega (arith, c.0, e)), refl)))
   kind_told (Typed.result e) f = rw (said_result w e) (neither 2 e (λ x. omega arith) (λ x. omega arith))
@@ -130,7 +130,7 @@ module _ (w : List ℕ) (n : ℕ) where
       type : word w 10 ≤ 7
       type = at_type w n f 10 4 (omega arith) e
 
-      go : (ltb 1 (word w 10 % 256) ≡ true) ⊎ (ltb 1 (word w 10 % 256) ≡ false) → KindTold (pick (ltb 1 (word w 10 % 256)) (Bad D6) Sound)
+      go : (ltb 1 (word w 10 % 256) ≡ true) ⊎ (ltb 1 (word w 10 % 256) ≡ false) → KindTold (pick (ltb 1 (word w 10 % 256)) (Err D6) (Ok tt))
       go (inl q) = rw q (inr ((λ c. omega (arith, c.0, e)), inl ((e, omega (arith, type, ltb-true 1 (word w 10 % 256) q)), refl)))
       go (inr q) = rw q (inr ((λ c. omega (arith, c.0, e)), inr ((λ c. omega (arith, type, c.1, ltb-false 1 (word w 10 % 256) q)), refl)))
   kind_told (Typed.seg_invoke e) f = rw (said_seg_invoke w e) (neither 5 e (λ x. omega arith) (λ x. omega arith))

@@ -11,7 +11,7 @@ unfolding length_answer
 returns c =
     let zeros : List ℕ = replicate 20 0 in
     let words : List ℕ = c.args.n ∷ replicate 19 0 in
-    c.store_words-2.ensures
-    ∙ ap (λ l. put l 0 words) c.store_words.ensures
+    c.store-2.ensures
+    ∙ ap (λ l. put l 0 words) c.store.ensures
     ∙ put_swap words zeros c.args.answer.now 0 20 (omega arith)
     ∙ sym (put_append words zeros c.args.answer.now 0)

@@ -9,22 +9,16 @@ use Rattle.c_codec.proofs.write.Goals as goal
 pub returns-then-answer-lt-ANSWER_SIZE : goal.returns-then-answer-lt-ANSWER_SIZE
 unfolding write_number write_output write_answer
 returns-then-answer-lt-ANSWER_SIZE c =
-    rw (lt-ltb (length c.args.answer.now) answer_size c.if-answer-lt-ANSWER_SIZE.true) (c.number.ensures, refl, refl)
+    rw (lt-ltb (length c.args.answer.now) answer_size c.if-answer-lt-ANSWER_SIZE.true) (c.from.ensures, refl, refl)
 
-pub returns-in-Length : goal.returns-in-Length
+pub returns-in-Ok : goal.returns-in-Ok
 unfolding write_number write_output write_answer
-returns-in-Length c =
+returns-in-Ok c =
     let w = writing c.args.fields.now c.args.bytes.now c.args.out.now _ _ c.write.ensures in
-    rw (le-ltb (length c.args.answer.now) answer_size c.if-answer-lt-ANSWER_SIZE.false, w.1, ← w.0, c.in-Length.is) (refl, refl, c.store_length.ensures)
+    rw (le-ltb (length c.args.answer.now) answer_size c.if-answer-lt-ANSWER_SIZE.false, w.1, ← w.0, c.in-Ok.is) (refl, refl, c.store_length.ensures)
 
-pub returns-in-Malformed : goal.returns-in-Malformed
+pub returns-in-Err : goal.returns-in-Err
 unfolding write_number write_output write_answer
-returns-in-Malformed c =
+returns-in-Err c =
     let w = writing c.args.fields.now c.args.bytes.now c.args.out.now _ _ c.write.ensures in
-    rw (le-ltb (length c.args.answer.now) answer_size c.if-answer-lt-ANSWER_SIZE.false, w.1, ← w.0, c.in-Malformed.is) (c.code.ensures, refl, refl)
-
-pub returns-in-Refused : goal.returns-in-Refused
-unfolding write_number write_output write_answer
-returns-in-Refused c =
-    let w = writing c.args.fields.now c.args.bytes.now c.args.out.now _ _ c.write.ensures in
-    rw (le-ltb (length c.args.answer.now) answer_size c.if-answer-lt-ANSWER_SIZE.false, w.1, ← w.0, c.in-Refused.is) (c.number-in-Refused.ensures, refl, refl)
+    rw (le-ltb (length c.args.answer.now) answer_size c.if-answer-lt-ANSWER_SIZE.false, w.1, ← w.0, c.in-Err.is) (c.from-in-Err.ensures, refl, refl)

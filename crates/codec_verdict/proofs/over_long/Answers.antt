@@ -4,13 +4,13 @@ use Rattle.codec_verdict.proofs.Steps.{none_so_far, one_more_item, all_so_far}
 use Rattle.codec_verdict.proofs.over_long.Goals as goal
 
 pub loop-k-init : goal.loop-k-init
-loop-k-init c = (omega arith, none_so_far c.args.words.now _ _ c.header_length.ensures c.capped-sum.ensures)
+loop-k-init c = none_so_far c.args.words.now _ _ c.header_length.ensures c.capped-sum.ensures
 
 pub loop-k-preserved : goal.loop-k-preserved
 loop-k-preserved c =
     let form = rw c.form_length.ensures at c.capped.ensures in
-    (omega arith, one_more_item c.args.words.now c.loop-k.k c.loop-k.sum _ _ c.loop-k.invariant.1 form c.capped-sum-in-loop-k.ensures)
+    one_more_item c.args.words.now c.loop-k.k c.loop-k.sum _ _ c.loop-k.invariant form c.capped-sum-in-loop-k.ensures
 
 pub returns : goal.returns
 returns c =
-    all_so_far c.args.words.now c.loop-k.k _ c.loop-k.sum c.loop-k.invariant.0 c.loop-k-test.false c.places-n.ensures c.loop-k.invariant.1
+    all_so_far c.args.words.now c.loop-k.k _ c.loop-k.sum (omega arith) c.loop-k-test.false c.places-k-end.ensures c.loop-k.invariant

@@ -1,28 +1,19 @@
--- A turn passes a word that is not over its bound; one that is ends the loop.
-use Rattle.std.proofs.Common.{ℕ, List, Bool, ◌+◌, length, get_or, leb, sym, arith}
-use borrow.Author.Tests.{le-leb, lt-leb}
-use Rattle.base_lists.proofs.StoresAndParts.{every_none, every_more, every_fails}
-use Rattle.base_lists.proofs.Every.{every_done}
-use Rattle.codec_said.specs.Said.{word}
-use Rattle.codec_verdict.specs.Widths.{row_narrow}
+-- The chain tests every word of the row.
+use Rattle.std.proofs.Common.{◌≡◌, ◌≤◌, ◌-◌, length, take, drop, ap, ◌∙◌, leb, rules, arith}
+use Rattle.std.proofs.Math.ListN.{length-drop}
+use Rattle.std.proofs.lemmas.List.{take_all}
+use borrow.Author.Tests.{tests}
+use Rattle.std.proofs.lemmas.Iterator.{YieldsList-from_slice, YieldsList-from_zip}
+use Rattle.std.proofs.lemmas.Iterator.Search.{all_from_yields_List}
+use Rattle.codec_verdict.proofs.Chains.{rows}
 use Rattle.codec_verdict.proofs.row_narrow.Goals as goal
 
-abbrev narrow_at : List ℕ → ℕ → List ℕ → ℕ → Bool
-narrow_at words at most i = leb (word words (at + i)) (get_or most i 0)
-
-pub loop-j-init : goal.loop-j-init
-loop-j-init c = (omega arith, every_none (narrow_at c.args.words.now c.args.at c.args.most.now))
-
-pub returns-then-most-j : goal.returns-then-most-j
-unfolding row_narrow
-returns-then-most-j c =
-    sym (every_fails (narrow_at c.args.words.now c.args.at c.args.most.now) (length c.args.most.now) c.loop-j.j c.loop-j-test.true (lt-leb _ _ c.if-most-j.true))
-
-pub loop-j-preserved : goal.loop-j-preserved
-loop-j-preserved c =
-    (omega arith, every_more (narrow_at c.args.words.now c.args.at c.args.most.now) c.loop-j.j (le-leb _ _ c.if-most-j.false) c.loop-j.invariant.1)
-
 pub returns : goal.returns
-unfolding row_narrow
 returns c =
-    sym (every_done (narrow_at c.args.words.now c.args.at c.args.most.now) (length c.args.most.now) c.loop-j.j c.loop-j.invariant.0 c.loop-j-test.false c.loop-j.invariant.1)
+    let w = c.args.words.now in
+    let most = c.args.most.now in
+    let short : length (drop c.args.at w) ≤ length w - c.args.at = omega (arith, length-drop c.args.at w) in
+    let left : c.iter.result.rest.now ≡ take (length w - c.args.at) (drop c.args.at w) = search rules in
+    let all_left : c.zip.result.a.rest.now ≡ drop c.args.at w = ap (λ i. i.rest.now) c.zip.ensures.first ∙ left ∙ take_all (length w - c.args.at) (drop c.args.at w) short in
+    all_from_yields_List {s = c.zip.result} (λ x. leb x.0 x.1) c.all.new.self _ _ c.all.ensures.ran (YieldsList-from_zip (YieldsList-from_slice (drop c.args.at w) all_left) (YieldsList-from_slice most (search rules))) (λ x b q k. search (rules, tests))
+    ∙ rows w c.args.at most c.requires

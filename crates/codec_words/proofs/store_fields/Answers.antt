@@ -20,6 +20,6 @@ returns c =
     let lc : length other.result ≡ 6 = omega arith in
     let ld : length rest.result ≡ 9 = omega arith in
     let fit : 24 + length (items_words listed) ≤ length c.args.fields.now = omega (arith, length_items_words listed, length_list c.args.s.now 16 c.args.first, c.requires) in
-    c.store_words-4.ensures
-    ∙ rw (c.store_words-3.ensures, c.store_words-2.ensures, c.store_words.ensures, items.ensures.1, rest.ensures, items.ensures.0, other.ensures, invoke.ensures, front.ensures)
+    c.store-4.ensures
+    ∙ rw (c.store-3.ensures, c.store-2.ensures, c.store.ensures, items.ensures.1, rest.ensures, items.ensures.0, other.ensures, invoke.ensures, front.ensures)
     (five_stores c.args.fields.now _ _ _ _ _ (rw front.ensures at la) (rw invoke.ensures at lb) (rw other.ensures at lc) (rw (rest.ensures, items.ensures.0) at ld) fit)

@@ -1,27 +1,21 @@
 -- Each step counts one item in, if there is one, and stores its words.
-use Rattle.std.proofs.Common.{◌≡◌, ◌+◌, ◌-◌, ◌*◌, ◌≤◌, sym, ◌∙◌, arith}
+use Rattle.std.proofs.Common.{◌≡◌, ◌+◌, ◌-◌, ◌*◌, refl, sym, ◌∙◌, arith}
 use Rattle.base_lists.proofs.StoresAndParts.{put_nil}
 use Rattle.codec_words.specs.Words.{items_words}
-use Rattle.codec_words.specs.Listed.{list_from, count_from}
+use Rattle.codec_words.specs.Listed.{one_of, list_from, count_from}
 use Rattle.codec_words.proofs.Listed.{one_at_most, one_counted, one_stored}
 use Rattle.codec_words.proofs.store_items.Goals as goal
-
-one_more : (c : goal.After-struct_known-1) → c.placed_at-placed.result.one ≤ 1
-one_more c = rw c.placed_at-placed.ensures (one_at_most _ _)
-
-pub overflow_add-count : goal.overflow_add-count
-overflow_add-count c = omega (arith, one_more c)
 
 pub loop-k-preserved : goal.loop-k-preserved
 loop-k-preserved c =
     let l = c.loop-k in
-    let p = c.placed_at-placed in
+    let g = c.placed_at-got in
     let s = c.args.s.now in
+    let one : c.from-count.result ≡ one_of g.result = c.from-count.ensures ∙ rw c.is_some.ensures refl in
     record {
-      bound = omega arith;
-      few = omega (arith, one_more c);
-      counted = rw p.ensures (omega (arith, one_counted s l.at l.k c.loop-k-test.true, l.invariant.counted));
-      stored = rw (c.store_words.ensures, c.item_words-four.ensures, p.ensures) (one_stored s l.at l.k c.loop-k-test.true l.fields ∙ l.invariant.stored);
+      few = omega (arith, one_at_most g.result);
+      counted = rw c.next_of-at.ensures (omega (arith, one_counted s l.at l.k c.loop-k-test.true g.result g.ensures, l.invariant.counted));
+      stored = rw (c.next_of-at.ensures, c.store.ensures, c.item_words.ensures) (one_stored s l.at l.k c.loop-k-test.true g.result g.ensures l.fields ∙ l.invariant.stored);
     }
 
 pub returns : goal.returns

@@ -7,11 +7,7 @@ use Rattle.codec_words.proofs.store_items.Given as goal
 
 abbrev pub invariant-loop-k : goal.invariant-loop-k
 invariant-loop-k l = record {
-  bound : l.k ≤ 16;
   few : l.count ≤ l.k;
-  counted : l.count + count_from (16 - l.k) l.s l.at ≡ count_from 16 l.s l.first;
-  stored : put l.fields (24 + 4 * l.k) (items_words (list_from (16 - l.k) l.s l.at)) ≡ put l.initial.fields 24 (items_words (list_from 16 l.s l.first));
+  counted : l.count + count_from (16 - l.k) l.s l.at ≡ count_from 16 l.s l.initial.at;
+  stored : put l.fields (24 + 4 * l.k) (items_words (list_from (16 - l.k) l.s l.at)) ≡ put l.initial.fields 24 (items_words (list_from 16 l.s l.initial.at));
 }
-
-abbrev pub decreases-loop-k : goal.decreases-loop-k
-decreases-loop-k l = 16 - l.k
