@@ -15,7 +15,7 @@ use Rattle.table_header_ok.specs.Header.{SettingsOk, RowsOk, HeaderOk}
 use Rattle.table_record_ok.specs.OneRecord.{Live}
 use Rattle.table_well_formed.specs.WellFormed.{Sized, WellFormed}
 use Rattle.table_fresh.specs.Fresh.{fresh_answer, fresh_table, table_after_fresh}
-use Rattle.table_fresh.specs.declared.Fresh.TheVariants.{Made}
+use Rattle.std.specs.Prelude.{Ok}
 use Rattle.table_fresh.proofs.Sizes.{size_told}
 use Rattle.table_fresh.specs.Conditions.{word, AllInRange}
 use Rattle.table_fresh.proofs.Ranges.{in_range_holds}
@@ -59,7 +59,7 @@ module _ (ws : List ℕ) (first : ℕ) (a : AllInRange ws first) where
       unique = λ i j h l d live other same. not_live i live;
     }
 
-module _ (t ws : List ℕ) (first : ℕ) (made : fresh_answer (length t) ws first ≡ Made) where
+module _ (t ws : List ℕ) (first : ℕ) (made : fresh_answer (length t) ws first ≡ Ok tt) where
   abbrev n : ℕ
   n = count t
 
@@ -69,7 +69,7 @@ module _ (t ws : List ℕ) (first : ℕ) (made : fresh_answer (length t) ws firs
   f : FreshFacts (fresh_table n ws first) ws first
   f = fresh_facts n ws first a
 
-  pub fresh_ok : FreshOk t (table_after_fresh Made t ws first) first
+  pub fresh_ok : FreshOk t (table_after_fresh (Ok tt) t ws first) first
   unfolding table_after_fresh tidnew_due_of
   fresh_ok =
       let s = size_told (length t) (accepted (length t) ws first made).0 in

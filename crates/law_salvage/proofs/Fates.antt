@@ -15,17 +15,16 @@ use Rattle.base_lists.proofs.StoresAndParts.{told, true_false}
 use Rattle.table_record.specs.Record.{role_of, state_number}
 use Rattle.table_record.specs.declared.Record.{Record}
 use Rattle.table_layout.specs.Table.{settings_of, record_at}
-use Rattle.table_finding.specs.Finding.{is_found, named_of}
+use Rattle.std.specs.Prelude.{Option, Some, None, is_some}
+use Rattle.table_finding.specs.Finding.{named_of}
 use Rattle.table_finding.specs.Searched.{Called, LowestOf, NoneOf}
-use Rattle.table_finding.specs.declared.Found.{Found}
-use Rattle.table_finding.specs.declared.Found.TheVariants.{At, Nothing}
 use Rattle.table_finding.proofs.Searches.{named_found, named_nothing}
 use Rattle.table_record_ok.specs.OneRecord.{Live, LiveOk, RecordOk, record_ok}
 use Rattle.table_record_ok.proofs.RecordTest.{record_to, record_from, live_of}
 use Rattle.law_formed_kept.proofs.InRecord.{record_same}
 use Rattle.table_salvage.specs.Salvage.{reason_of, shares_name, finding_at, salvaged_to}
-use Rattle.table_salvage.specs.declared.Finding.{Finding}
-use Rattle.table_salvage.specs.declared.Finding.TheVariants.{Stays, OutOfRange, NotZero, SharesName}
+use Rattle.table_salvage.specs.declared.Reason.{Reason as Why}
+use Rattle.table_salvage.specs.declared.Reason.TheVariants.{OutOfRange, NotZero, SharesName}
 use Rattle.law_salvage.specs.Reasons.{OutOfRange as IsOutOfRange, NotZero as IsNotZero}
 use Rattle.law_salvage.specs.Sentences.{SameRecord}
 use Rattle.law_salvage.proofs.Octets.{same_fields, reasonFor, salvaged_settings, not_done}
@@ -47,19 +46,19 @@ abbrev pub Namesake : Record → Record → Type 0
 Namesake r = Called (role_of r.state) r.peer r.tid
 
 module _ (t : List ℕ) (i : ℕ) where
-  abbrev searched : Found
+  abbrev searched : Option ℕ
   searched = named_of t i (role_of (record_at t i).state) (record_at t i).peer (record_at t i).tid
 
   shares_to : shares_name t i ≡ true → Live (record_at t i) × ((j : ℕ) × LowestOf (Namesake (record_at t i)) t i j)
   unfolding shares_name
   shares_to h = go (told (eqb (state_number (record_at t i).state) 0)) h
     where
-      at : (f : Found) → searched ≡ f → is_found f ≡ true → (j : ℕ) × LowestOf (Namesake (record_at t i)) t i j
-      at (At j) e q = (j, named_found t i (role_of (record_at t i).state) (record_at t i).peer (record_at t i).tid j e)
-      at Nothing e q = true_false (sym q)
+      at : (f : Option ℕ) → searched ≡ f → is_some f ≡ true → (j : ℕ) × LowestOf (Namesake (record_at t i)) t i j
+      at (Some j) e q = (j, named_found t i (role_of (record_at t i).state) (record_at t i).peer (record_at t i).tid j e)
+      at None e q = true_false (sym q)
 
       go : (eqb (state_number (record_at t i).state) 0 ≡ true) ⊎ (eqb (state_number (record_at t i).state) 0 ≡ false)
-          → pick (eqb (state_number (record_at t i).state) 0) false (is_found searched) ≡ true → Live (record_at t i) × ((j : ℕ) × LowestOf (Namesake (record_at t i)) t i j)
+          → pick (eqb (state_number (record_at t i).state) 0) false (is_some searched) ≡ true → Live (record_at t i) × ((j : ℕ) × LowestOf (Namesake (record_at t i)) t i j)
       go (inl e) q = true_false (sym (rw e at q))
       go (inr e) q = (omega (arith, eqb-false (state_number (record_at t i).state) 0 e), at searched refl (rw e at q))
 
@@ -67,21 +66,21 @@ module _ (t : List ℕ) (i : ℕ) where
   unfolding shares_name
   shares_not h live = go (told (eqb (state_number (record_at t i).state) 0)) h
     where
-      at : (f : Found) → searched ≡ f → is_found f ≡ false → NoneOf (Namesake (record_at t i)) t i
-      at (At j) e q = true_false q
-      at Nothing e q = named_nothing t i (role_of (record_at t i).state) (record_at t i).peer (record_at t i).tid e
+      at : (f : Option ℕ) → searched ≡ f → is_some f ≡ false → NoneOf (Namesake (record_at t i)) t i
+      at (Some j) e q = true_false q
+      at None e q = named_nothing t i (role_of (record_at t i).state) (record_at t i).peer (record_at t i).tid e
 
       go : (eqb (state_number (record_at t i).state) 0 ≡ true) ⊎ (eqb (state_number (record_at t i).state) 0 ≡ false)
-          → pick (eqb (state_number (record_at t i).state) 0) false (is_found searched) ≡ false → NoneOf (Namesake (record_at t i)) t i
+          → pick (eqb (state_number (record_at t i).state) 0) false (is_some searched) ≡ false → NoneOf (Namesake (record_at t i)) t i
       go (inl e) q = absurd (omega (arith, live, eqb-true (state_number (record_at t i).state) 0 e))
       go (inr e) q = at searched refl (rw e at q)
 
 -- what a finding at place i of t says, where the lower places of v are done
-abbrev pub Fate : List ℕ → List ℕ → ℕ → Finding → Type 0
-Fate t v i Stays = RecordOk t (settings_of t) i × (Live (record_at t i) → NoneOf (Namesake (record_at t i)) v i)
-Fate t v i OutOfRange = IsOutOfRange t i
-Fate t v i NotZero = IsNotZero t i
-Fate t v i SharesName = LiveOk t (settings_of t) i × ((j : ℕ) × LowestOf (Namesake (record_at t i)) v i j)
+abbrev pub Fate : List ℕ → List ℕ → ℕ → Option Why → Type 0
+Fate t v i None = RecordOk t (settings_of t) i × (Live (record_at t i) → NoneOf (Namesake (record_at t i)) v i)
+Fate t v i (Some OutOfRange) = IsOutOfRange t i
+Fate t v i (Some NotZero) = IsNotZero t i
+Fate t v i (Some SharesName) = LiveOk t (settings_of t) i × ((j : ℕ) × LowestOf (Namesake (record_at t i)) v i j)
 
 module _ (t : List ℕ) (i : ℕ) where
   abbrev v : List ℕ
@@ -108,7 +107,7 @@ module _ (t : List ℕ) (i : ℕ) where
     where
       go : (record_ok v (settings_of v) i ≡ true) ⊎ (record_ok v (settings_of v) i ≡ false) → (shares_name v i ≡ true) ⊎ (shares_name v i ≡ false)
           → (eqb (get_or v (base i) 0) 0 ≡ true) ⊎ (eqb (get_or v (base i) 0) 0 ≡ false)
-          → Fate t v i (pick (record_ok v (settings_of v) i) (pick (shares_name v i) SharesName Stays) (pick (eqb (get_or v (base i) 0) 0) NotZero OutOfRange))
+          → Fate t v i (pick (record_ok v (settings_of v) i) (pick (shares_name v i) (Some SharesName) None) (pick (eqb (get_or v (base i) 0) 0) (Some NotZero) (Some OutOfRange)))
       go (inl a) (inl b) c =
           let s = shares_to v i b in
           let ok : RecordOk t (settings_of t) i = ok_there (record_to v (settings_of v) i a) in
@@ -122,11 +121,11 @@ module _ (t : List ℕ) (i : ℕ) where
           rw (a, c) (record { not_free = λ f. eqb-false (get_or v (base i) 0) 0 c (state_octet ∙ f); not_in_range = λ l. not_ok a (inr l) })
 
   -- the finding of a place without a reason is that it stays
-  pub stays_fate : eqb (reasonFor t i) 0 ≡ true → Fate t v i Stays
+  pub stays_fate : eqb (reasonFor t i) 0 ≡ true → Fate t v i None
   stays_fate e = go (finding_at v i) fate e
     where
-      go : (f : Finding) → Fate t v i f → eqb (reason_of f) 0 ≡ true → Fate t v i Stays
-      go Stays x e = x
-      go OutOfRange x e = true_false (sym e)
-      go NotZero x e = true_false (sym e)
-      go SharesName x e = true_false (sym e)
+      go : (f : Option Why) → Fate t v i f → eqb (reason_of f) 0 ≡ true → Fate t v i None
+      go None x e = x
+      go (Some OutOfRange) x e = true_false (sym e)
+      go (Some NotZero) x e = true_false (sym e)
+      go (Some SharesName) x e = true_false (sym e)

@@ -30,8 +30,9 @@ use Rattle.table_names_ok.proofs.NamesTest.{name_turned}
 use Rattle.table_well_formed.specs.WellFormed.{Sized, WellFormed}
 use Rattle.law_formed_kept.proofs.InRecord.{sized_same, settings_stand, fields_stand}
 use Rattle.table_salvage.specs.Salvage.{reason_of, finding_at, salvaged_to}
-use Rattle.table_salvage.specs.declared.Finding.{Finding}
-use Rattle.table_salvage.specs.declared.Finding.TheVariants.{Stays, OutOfRange, NotZero, SharesName}
+use Rattle.std.specs.Prelude.{Option, Some, None}
+use Rattle.table_salvage.specs.declared.Reason.{Reason as Why}
+use Rattle.table_salvage.specs.declared.Reason.TheVariants.{OutOfRange, NotZero, SharesName}
 use Rattle.law_salvage.specs.Reasons.{SharesLower, Reason}
 use Rattle.law_salvage.specs.Sentences.{SameRecord, Changed, restored}
 use Rattle.law_salvage.proofs.Octets.{same_fields, reasonFor, salvaged_length, salvaged_settings, salvaged_header, done}
@@ -131,13 +132,13 @@ module _ (t : List ℕ) (sized : Sized t) where
     pub one_stays : (i : ℕ) → i < n → LiveOk t (settings_of t) i → (j : ℕ) × (j < n) × Namesake (record_at t i) (record_at v j)
     one_stays i h ok = go (finding_at (salvaged_to t i) i) (fate t i) refl
       where
-        go : (f : Finding) → Fate t (salvaged_to t i) i f → f ≡ finding_at (salvaged_to t i) i → (j : ℕ) × (j < n) × Namesake (record_at t i) (record_at v j)
-        go Stays x e =
-            let same : record_at v i ≡ record_at t i = same_fields t v i (stays i h (ap (λ (f : Finding). eqb (reason_of f) 0) (sym e))) in
+        go : (f : Option Why) → Fate t (salvaged_to t i) i f → f ≡ finding_at (salvaged_to t i) i → (j : ℕ) × (j < n) × Namesake (record_at t i) (record_at v j)
+        go None x e =
+            let same : record_at v i ≡ record_at t i = same_fields t v i (stays i h (ap (λ (f : Option Why). eqb (reason_of f) 0) (sym e))) in
             (i, h, rw same (called_as (record_at t i) (record_at t i) ok.range.live (record { role = refl; peer = refl; tid = refl })))
-        go OutOfRange x e = absurd (x.not_in_range ok)
-        go NotZero x e = absurd (live_octet t i ok x.free)
-        go SharesName x e =
+        go (Some OutOfRange) x e = absurd (x.not_in_range ok)
+        go (Some NotZero) x e = absurd (live_octet t i ok x.free)
+        go (Some SharesName) x e =
             let j : ℕ = x.1.0 in
             let low : LowestOf (Namesake (record_at t i)) (salvaged_to t i) i j = x.1.1 in
             (j, omega (arith, low.below, h), rw (done_same i j low.below (omega arith)) low.is_so)
@@ -183,11 +184,11 @@ module _ (t : List ℕ) (sized : Sized t) where
     pub reason_so : eqb (reasonFor t i) 0 ≡ false → Reason t i (reasonFor t i)
     reason_so e = go (finding_at (salvaged_to t i) i) (fate t i) e
       where
-        go : (f : Finding) → Fate t (salvaged_to t i) i f → eqb (reason_of f) 0 ≡ false → Reason t i (reason_of f)
-        go Stays x e = true_false e
-        go OutOfRange x e = Reason.out_of_range x
-        go NotZero x e = Reason.not_zero x
-        go SharesName x e = Reason.shares_lower (shares x.0 x.1.0 x.1.1)
+        go : (f : Option Why) → Fate t (salvaged_to t i) i f → eqb (reason_of f) 0 ≡ false → Reason t i (reason_of f)
+        go None x e = true_false e
+        go (Some OutOfRange) x e = Reason.out_of_range x
+        go (Some NotZero) x e = Reason.not_zero x
+        go (Some SharesName) x e = Reason.shares_lower (shares x.0 x.1.0 x.1.1)
 
     not_both : RecordOk t (settings_of t) i → (get_or t (base i) 0 ≡ 0 → ⊥) → (LiveOk t (settings_of t) i → ⊥) → ⊥
     not_both (inl f) some out = some (free_octet t i f)
@@ -201,10 +202,10 @@ module _ (t : List ℕ) (sized : Sized t) where
     pub reason_found : (r : ℕ) → Reason t i r → reasonFor t i ≡ r
     reason_found r x = go (finding_at (salvaged_to t i) i) (fate t i) r x
       where
-        go : (f : Finding) → Fate t (salvaged_to t i) i f → (r : ℕ) → Reason t i r → reason_of f ≡ r
-        go Stays y r (Reason.out_of_range x) = absurd (not_both y.0 x.not_free x.not_in_range)
-        go Stays y r (Reason.not_zero x) = absurd (not_free y.0 x.free x.not_zero)
-        go Stays y r (Reason.shares_lower x) =
+        go : (f : Option Why) → Fate t (salvaged_to t i) i f → (r : ℕ) → Reason t i r → reason_of f ≡ r
+        go None y r (Reason.out_of_range x) = absurd (not_both y.0 x.not_free x.not_in_range)
+        go None y r (Reason.not_zero x) = absurd (not_free y.0 x.free x.not_zero)
+        go None y r (Reason.shares_lower x) =
             let kept = one_stays i within x.lower x.below x.lower_in_range in
             let c : Namesake (record_at t x.lower) (record_at (salvaged_to t i) kept.0) = kept.2 in
             absurd (y.1 x.in_range_holds.range.live kept.0 kept.1 (record {
@@ -213,15 +214,15 @@ module _ (t : List ℕ) (sized : Sized t) where
               peer_is = c.peer_is ∙ x.same_name.peer;
               tid_is = c.tid_is ∙ x.same_name.tid;
             }))
-        go OutOfRange y r (Reason.out_of_range x) = refl
-        go OutOfRange y r (Reason.not_zero x) = absurd (y.not_free x.free)
-        go OutOfRange y r (Reason.shares_lower x) = absurd (y.not_in_range x.in_range_holds)
-        go NotZero y r (Reason.out_of_range x) = absurd (x.not_free y.free)
-        go NotZero y r (Reason.not_zero x) = refl
-        go NotZero y r (Reason.shares_lower x) = absurd (live_octet t i x.in_range_holds y.free)
-        go SharesName y r (Reason.out_of_range x) = absurd (x.not_in_range y.0)
-        go SharesName y r (Reason.not_zero x) = absurd (live_octet t i y.0 x.free)
-        go SharesName y r (Reason.shares_lower x) = refl
+        go (Some OutOfRange) y r (Reason.out_of_range x) = refl
+        go (Some OutOfRange) y r (Reason.not_zero x) = absurd (y.not_free x.free)
+        go (Some OutOfRange) y r (Reason.shares_lower x) = absurd (y.not_in_range x.in_range_holds)
+        go (Some NotZero) y r (Reason.out_of_range x) = absurd (x.not_free y.free)
+        go (Some NotZero) y r (Reason.not_zero x) = refl
+        go (Some NotZero) y r (Reason.shares_lower x) = absurd (live_octet t i x.in_range_holds y.free)
+        go (Some SharesName) y r (Reason.out_of_range x) = absurd (x.not_in_range y.0)
+        go (Some SharesName) y r (Reason.not_zero x) = absurd (live_octet t i y.0 x.free)
+        go (Some SharesName) y r (Reason.shares_lower x) = refl
 
     -- an octet of a place with a reason changes
     pub reason_changes : (r : ℕ) → Reason t i r → eqb (reasonFor t i) 0 ≡ false → Changed t outcome i

@@ -1,4 +1,5 @@
 -- The turns of the loop that looks for the earliest due record. Assumes nothing.
+use Rattle.std.specs.Prelude.{Option, Some, None}
 use mathlib.Core.Path.{◌≡◌, refl}
 use mathlib.Core.List.{List}
 use mathlib.Core.Bool.{Bool, true, false}
@@ -10,10 +11,8 @@ use Rattle.base_layout.specs.Layout.{record_size, base}
 use Rattle.base_lists.specs.Seq.{pick}
 use Rattle.table_layout.specs.Table.{record_at}
 use Rattle.table_finding.specs.Finding.{is_due, earlier_of, better_of, best, Within}
-use Rattle.table_finding.specs.declared.Found.{Found}
-use Rattle.table_finding.specs.declared.Found.TheVariants.{At, Nothing}
 
-module _ (f : ℕ → Found → Found) (n i : ℕ) (b : Found) where
+module _ (f : ℕ → Option ℕ → Option ℕ) (n i : ℕ) (b : Option ℕ) where
   pub turn : i < n → best f (n - i) i b ≡ best f (n - (i + 1)) (i + 1) (f i b)
   unfolding best
   turn h =
@@ -27,7 +26,7 @@ module _ (f : ℕ → Found → Found) (n i : ℕ) (b : Found) where
       rw e refl
 
 -- a record that is due is weighed, another is passed over
-module _ (t : List ℕ) (time i : ℕ) (b : Found) where
+module _ (t : List ℕ) (time i : ℕ) (b : Option ℕ) where
   pub weighed : is_due time (record_at t i) ≡ true → earlier_of t i b ≡ better_of t time i b
   unfolding better_of
   weighed q = rw q refl
@@ -38,15 +37,15 @@ module _ (t : List ℕ) (time i : ℕ) (b : Found) where
 
 -- what is best lies in the table
 module _ (t : List ℕ) (time i : ℕ) (h : base i + record_size ≤ length t) where
-  one_within : (x : Bool) (j : ℕ) → Within t (At j) → Within t (pick x (At i) (At j))
+  one_within : (x : Bool) (j : ℕ) → Within t (Some j) → Within t (pick x (Some i) (Some j))
   one_within true j v = h
   one_within false j v = v
 
-  pub better_within : (b : Found) → Within t b → Within t (better_of t time i b)
+  pub better_within : (b : Option ℕ) → Within t b → Within t (better_of t time i b)
   unfolding better_of earlier_of
   better_within b w = go (is_due time (record_at t i)) b w
     where
-      go : (x : Bool) (b : Found) → Within t b → Within t (pick x (earlier_of t i b) b)
-      go true (At j) v = one_within (ltb (record_at t i).deadline (record_at t j).deadline) j v
-      go true Nothing v = h
+      go : (x : Bool) (b : Option ℕ) → Within t b → Within t (pick x (earlier_of t i b) b)
+      go true (Some j) v = one_within (ltb (record_at t i).deadline (record_at t j).deadline) j v
+      go true None v = h
       go false b v = v

@@ -1,5 +1,5 @@
 -- Finding a record: by its name, a free one, a TID in use, the due one (01, "Numbers given back" and "Events").
-use Rattle.std.specs.Prelude.{ℕ, zero, suc, ◌+◌, ◌%◌, ◌≤◌, List, Bool, true, false, not, length, ltb, leb, eqb}
+use Rattle.std.specs.Prelude.{ℕ, zero, suc, ◌+◌, ◌%◌, ◌≤◌, List, Bool, false, not, length, ltb, leb, eqb, Option, Some, None, is_some}
 use Rattle.base_layout.specs.Layout.{record_size, base, tid_count}
 use Rattle.base_lists.specs.Seq.{pick}
 use Rattle.base_tids.specs.declared.RcvTid.{RcvTid}
@@ -8,20 +8,11 @@ use Rattle.table_record.specs.declared.Role.{Role}
 use Rattle.table_record.specs.declared.Role.TheVariants.{Initiator}
 use Rattle.table_record.specs.declared.Record.{Record}
 use Rattle.table_layout.specs.Table.{record_at}
-use Rattle.table_finding.specs.declared.Found.{Found}
-use Rattle.table_finding.specs.declared.Found.TheVariants.{At, Nothing}
-use Rattle.table_finding.specs.declared.Sought.{Sought}
-use Rattle.table_finding.specs.declared.Sought.TheVariants.{Named, Unused, WithTid}
 
 -- the lowest of the k places from i on that p holds of
-unfoldable pub first : (ℕ → Bool) → ℕ → ℕ → Found
-first p zero i = Nothing
-first p (suc k) i = pick (p i) (At i) (first p k (i + 1))
-
--- whether something was found
-abbrev pub is_found : Found → Bool
-is_found (At i) = true
-is_found Nothing = false
+unfoldable pub first : (ℕ → Bool) → ℕ → ℕ → Option ℕ
+first p zero i = None
+first p (suc k) i = pick (p i) (Some i) (first p k (i + 1))
 
 -- a record that is not live
 abbrev pub is_free : Record → Bool
@@ -47,55 +38,45 @@ is_receiver role peer tid r = pick (eqb (rcv_tid role (r.tid % tid_count)) tid.0
 unfoldable pub uses_tid : ℕ → Record → Bool
 uses_tid tid r = pick (eqb r.tid tid) (has_role Initiator r) false
 
--- whether a record is what is looked for
-abbrev pub is_sought : Sought → Record → Bool
-is_sought (Named role peer tid) r = is_named role peer tid r
-is_sought Unused r = is_free r
-is_sought (WithTid tid) r = uses_tid tid r
-
--- the lowest of n records that is what is looked for
-abbrev pub found : List ℕ → ℕ → Sought → Found
-found t n what = first (λ (i : ℕ). is_sought what (record_at t i)) n 0
-
 -- the live record of this role, peer and TID among the n of a table
-unfoldable pub named_of : List ℕ → ℕ → Role → ℕ → ℕ → Found
-named_of t n role peer tid = found t n (Named role peer tid)
+unfoldable pub named_of : List ℕ → ℕ → Role → ℕ → ℕ → Option ℕ
+named_of t n role peer tid = first (λ (i : ℕ). is_named role peer tid (record_at t i)) n 0
 
 -- the live record of this role and peer towards which the peer writes this TID
-unfoldable pub receiver_of : List ℕ → ℕ → Role → ℕ → RcvTid → Found
+unfoldable pub receiver_of : List ℕ → ℕ → Role → ℕ → RcvTid → Option ℕ
 receiver_of t n role peer tid = first (λ (i : ℕ). is_receiver role peer tid (record_at t i)) n 0
 
 -- 01: "takes the lowest free record"
-unfoldable pub free_of : List ℕ → ℕ → Found
-free_of t n = found t n Unused
+unfoldable pub free_of : List ℕ → ℕ → Option ℕ
+free_of t n = first (λ (i : ℕ). is_free (record_at t i)) n 0
 
 -- whether some live initiator record has this TID
 unfoldable pub tid_in_use : List ℕ → ℕ → ℕ → Bool
-tid_in_use t n tid = is_found (found t n (WithTid tid))
+tid_in_use t n tid = is_some (first (λ (i : ℕ). uses_tid tid (record_at t i)) n 0)
 
 -- 01: "the due record (deadline not after now)"; the deadline 0 is no timer
 unfoldable pub is_due : ℕ → Record → Bool
 is_due time r = pick (eqb r.deadline 0) false (pick (leb r.deadline time) (not (is_free r)) false)
 
 -- 01: "the earliest deadline, lowest place on ties": of record i and the best so far the one that fires first
-unfoldable pub earlier_of : List ℕ → ℕ → Found → Found
-earlier_of t i (At j) = pick (ltb (record_at t i).deadline (record_at t j).deadline) (At i) (At j)
-earlier_of t i Nothing = At i
+unfoldable pub earlier_of : List ℕ → ℕ → Option ℕ → Option ℕ
+earlier_of t i (Some j) = pick (ltb (record_at t i).deadline (record_at t j).deadline) (Some i) (Some j)
+earlier_of t i None = Some i
 
 -- the best of record i, which counts only where it is due, and the best so far
-unfoldable pub better_of : List ℕ → ℕ → ℕ → Found → Found
+unfoldable pub better_of : List ℕ → ℕ → ℕ → Option ℕ → Option ℕ
 better_of t time i b = pick (is_due time (record_at t i)) (earlier_of t i b) b
 
 -- the best of b and the k places from i on
-unfoldable pub best : (ℕ → Found → Found) → ℕ → ℕ → Found → Found
+unfoldable pub best : (ℕ → Option ℕ → Option ℕ) → ℕ → ℕ → Option ℕ → Option ℕ
 best f zero i b = b
 best f (suc k) i b = best f k (i + 1) (f i b)
 
 -- 01: "the due record … with the earliest deadline, lowest place on ties, or says none is due"
-unfoldable pub due_of : List ℕ → ℕ → ℕ → Found
-due_of t n time = best (better_of t time) n 0 Nothing
+unfoldable pub due_of : List ℕ → ℕ → ℕ → Option ℕ
+due_of t n time = best (better_of t time) n 0 None
 
 -- what was found lies in the table
-abbrev pub Within : List ℕ → Found → Type 0
-Within t (At j) = base j + record_size ≤ length t
-Within t Nothing = Unit
+abbrev pub Within : List ℕ → Option ℕ → Type 0
+Within t (Some j) = base j + record_size ≤ length t
+Within t None = Unit

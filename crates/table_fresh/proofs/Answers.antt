@@ -9,15 +9,15 @@ use Rattle.base_numbers.specs.declared.Refusal.TheVariants.{WrongSize, WrongSett
 use Rattle.base_lists.specs.Seq.{pick}
 use Rattle.base_lists.proofs.StoresAndParts.{told, not_so, true_false}
 use Rattle.table_fresh.specs.Fresh.{right_size, in_range, fresh_answer, fresh_number}
-use Rattle.table_fresh.specs.declared.Fresh.{Fresh}
-use Rattle.table_fresh.specs.declared.Fresh.TheVariants.{Made, Refused}
+use Rattle.base_numbers.specs.declared.Refusal.{Refusal}
+use Rattle.std.specs.Prelude.{Result, Ok, Err}
 use Rattle.table_fresh.proofs.Sizes.{size_told, size_right}
 use Rattle.table_fresh.specs.Conditions.{OutOfRange, AllInRange, SomeSize}
 use Rattle.table_fresh.proofs.Ranges.{in_range_holds, out_of_range, refused_range, never_both}
 
 -- the answer by its two tests
-abbrev chosen : Bool → Bool → Fresh
-chosen a b = pick a (pick b Made (Refused WrongSetting)) (Refused WrongSize)
+abbrev chosen : Bool → Bool → Result Unit Refusal
+chosen a b = pick a (pick b (Ok tt) (Err WrongSetting)) (Err WrongSize)
 
 chosen_0 : (a b : Bool) → fresh_number (chosen a b) ≡ 0 → (a ≡ true) × (b ≡ true)
 chosen_0 true true e = (refl, refl)
@@ -76,7 +76,7 @@ module _ (len : ℕ) (ws : List ℕ) (first : ℕ) where
           go (inl r) = rw (size_right len h.0.0 h.0.1, r) refl
           go (inr r) = absurd (never_both ws first h.1 (out_of_range ws first r))
 
-module _ (len : ℕ) (ws : List ℕ) (first : ℕ) (e : fresh_answer len ws first ≡ Made) where
+module _ (len : ℕ) (ws : List ℕ) (first : ℕ) (e : fresh_answer len ws first ≡ Ok tt) where
   pub accepted : (right_size len ≡ true) × (in_range ws first ≡ true)
   unfolding fresh_answer
   accepted = chosen_0 (right_size len) (in_range ws first) (ap fresh_number e)

@@ -6,18 +6,18 @@ use lib.ListN.{length}
 use Rattle.base_numbers.specs.declared.Refusal.{Refusal}
 use Rattle.table_layout.specs.Table.{count}
 use Rattle.table_fresh.specs.Fresh.{fresh_answer, fresh_table, table_after_fresh, left_by_is}
-use Rattle.table_fresh.specs.declared.Fresh.TheVariants.{Made, Refused}
+use Rattle.std.specs.Prelude.{Ok, Err}
 use Rattle.table_fresh.proofs.Sizes.{size_told}
 use Rattle.table_fresh.proofs.Ranges.{in_range_holds}
 use Rattle.table_fresh.proofs.Answers.{accepted}
 use Rattle.table_fresh.proofs.Facts.{FreshFacts, fresh_length, fresh_facts}
 
 module _ (t ws : List ℕ) (first : ℕ) where
-  pub refused_keeps : (r : Refusal) → fresh_answer (length t) ws first ≡ Refused r → (left_by_is t ws first).table ≡ t
+  pub refused_keeps : (r : Refusal) → fresh_answer (length t) ws first ≡ Err r → (left_by_is t ws first).table ≡ t
   unfolding left_by_is table_after_fresh
   refused_keeps r e = rw e refl
 
-  module _ (e : fresh_answer (length t) ws first ≡ Made) where
+  module _ (e : fresh_answer (length t) ws first ≡ Ok tt) where
     made_table : (left_by_is t ws first).table ≡ fresh_table (count t) ws first
     unfolding left_by_is table_after_fresh
     made_table = rw e refl

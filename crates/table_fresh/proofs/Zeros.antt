@@ -1,5 +1,5 @@
 -- Octets of zero, and the loop that clears a table. Assumes nothing.
-use mathlib.Core.Path.{◌≡◌, refl, ◌∙◌}
+use mathlib.Core.Path.{◌≡◌, refl, sym, ◌∙◌}
 use mathlib.Core.List.{List, append-nil}
 use Prim.Native.Nat.{ℕ, zero, suc, ◌+◌, ◌≤◌, ◌<◌}
 use native.Mathlib.Omega.{arith}
@@ -24,7 +24,7 @@ pub clear_more : (t₀ t : List ℕ) (i : ℕ) → i < length t₀ → Stored t�
 clear_more t₀ t i h s =
     let e : length (zeros (length t₀)) ≡ length t₀ = length_zeros (length t₀) in
     let a : 0 + i ≡ i = omega arith in
-    rw (get_zeros (length t₀) i, a) at (stored_more t₀ 0 (zeros (length t₀)) (omega arith) t i (omega arith) s)
+    rw a at (stored_more t₀ 0 (zeros (length t₀)) (omega arith) t i 0 (omega arith) (sym (get_zeros (length t₀) i)) s)
 
 pub clear_all : (t₀ t : List ℕ) (i : ℕ) → length t₀ ≤ i → Stored t₀ 0 (zeros (length t₀)) t i → t ≡ zeros (length t₀)
 clear_all t₀ t i h s =

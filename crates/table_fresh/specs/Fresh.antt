@@ -1,5 +1,6 @@
 -- The fresh-table call (01, "What the reader carries" and "Numbers given back", 1 and 10).
-use Rattle.std.specs.Prelude.{ℕ, zero, suc, ◌+◌, ◌*◌, ◌-◌, ◌%◌, List, [], ◌++◌, Bool, true, false, length, get_or, replicate, ltb, leb, eqb}
+use Rattle.std.specs.Prelude.{ℕ, zero, suc, ◌+◌, ◌*◌, ◌-◌, ◌%◌, List, [], ◌++◌, Bool, true, false, length, get_or, replicate, ltb, leb, eqb, Result, Ok, Err}
+use Rattle.base_numbers.specs.declared.Refusal.{Refusal}
 use Rattle.base_layout.specs.Layout.{header_size, record_size, gen_tid_at, limit_at, modes_at, tidnew_due_at, header_spare_size, base, interval_bound, maximum_bound, tid_bound, peers, records_bound}
 use Rattle.base_numbers.specs.Numbers.{number_of}
 use Rattle.base_numbers.specs.declared.Refusal.TheVariants.{WrongSize, WrongSetting}
@@ -7,8 +8,6 @@ use Rattle.base_lists.specs.Seq.{pick, every, put}
 use Rattle.base_octets.specs.Octets.{enc}
 use Rattle.table_layout.specs.Table.{count}
 use Rattle.table_ranges.specs.Ranges.{modes_ok}
-use Rattle.table_fresh.specs.declared.Fresh.{Fresh}
-use Rattle.table_fresh.specs.declared.Fresh.TheVariants.{Made, Refused}
 
 -- 01: "1 to 48 records"; the bytes of a table for so many, else 0
 unfoldable pub table_bytes : ℕ → ℕ
@@ -31,13 +30,13 @@ unfoldable pub in_range : List ℕ → ℕ → Bool
 in_range ws first = pick (eqb (length ws) 32) (pick (words_ok ws) (pick (modes_ok (get_or ws 22 0) (get_or ws 23 0)) (leb first tid_bound) false) false) false
 
 -- 01: "The lowest applicable number is given"
-unfoldable pub fresh_answer : ℕ → List ℕ → ℕ → Fresh
-fresh_answer len ws first = pick (right_size len) (pick (in_range ws first) Made (Refused WrongSetting)) (Refused WrongSize)
+unfoldable pub fresh_answer : ℕ → List ℕ → ℕ → Result Unit Refusal
+fresh_answer len ws first = pick (right_size len) (pick (in_range ws first) (Ok tt) (Err WrongSetting)) (Err WrongSize)
 
 -- the number of an answer: 0 where the call was accepted
-abbrev pub fresh_number : Fresh → ℕ
-fresh_number Made = 0
-fresh_number (Refused r) = number_of r
+abbrev pub fresh_number : Result Unit Refusal → ℕ
+fresh_number (Ok x) = 0
+fresh_number (Err r) = number_of r
 
 -- n octets of zero
 unfoldable pub zeros : ℕ → List ℕ
@@ -61,17 +60,17 @@ unfoldable pub fresh_table : ℕ → List ℕ → ℕ → List ℕ
 fresh_table n ws first = zeros gen_tid_at ++ (fields_of ws first ++ zeros (header_spare_size + peers * 2 + n * record_size))
 
 -- 01: "A refusal gives only its number and changes no lent byte"
-unfoldable pub table_after_fresh : Fresh → List ℕ → List ℕ → ℕ → List ℕ
-table_after_fresh Made t ws first = fresh_table (count t) ws first
-table_after_fresh (Refused r) t ws first = t
+unfoldable pub table_after_fresh : Result Unit Refusal → List ℕ → List ℕ → ℕ → List ℕ
+table_after_fresh (Ok x) t ws first = fresh_table (count t) ws first
+table_after_fresh (Err r) t ws first = t
 
 -- what the call leaves: its answer and the table
 pub record Left : Type 0 where
-  pub answer : Fresh
+  pub answer : Result Unit Refusal
   pub table : List ℕ
 
 -- an answer and a table, as what is left
-abbrev pub left : Fresh → List ℕ → Left
+abbrev pub left : Result Unit Refusal → List ℕ → Left
 left a t = record { answer = a; table = t }
 
 -- what the call leaves of a table, for the settings ws and the first GenTID

@@ -1,5 +1,5 @@
 -- The octets of a table (01, "What the reader carries"): a header, then 1 to 48 records.
-use Rattle.std.specs.Prelude.{ℕ, zero, suc, ◌+◌, ◌*◌, ◌-◌, ◌/◌, List, [], ◌∷◌, Bool, length, get_or, replicate, eqb}
+use Rattle.std.specs.Prelude.{ℕ, zero, suc, ◌+◌, ◌*◌, ◌-◌, ◌/◌, ◌≤◌, List, [], ◌∷◌, Bool, length, get_or, replicate, eqb}
 use Rattle.base_layout.specs.Layout.{header_size, record_size, fields_size, clock_at, gen_tid_at, rcr_max_at, aec_max_at, a_at, w_at, row1_at, row2_at, limit_at, tidnew_due_at, cached_at, base}
 use Rattle.base_lists.specs.Seq.{bit, put}
 use Rattle.base_octets.specs.Octets.{num, enc, gets}
@@ -10,6 +10,18 @@ use Rattle.table_layout.specs.declared.Settings.{Settings}
 -- how many records a table has
 abbrev pub count : List ℕ → ℕ
 count t = (length t - header_size) / record_size
+
+-- the header lies whole in the octets
+abbrev pub HasHeader : List ℕ → Type 0
+HasHeader t = header_size ≤ length t
+
+-- the header and n records do
+abbrev pub HasRecords : List ℕ → ℕ → Type 0
+HasRecords t n = header_size + n * record_size ≤ length t
+
+-- the header and record i do
+abbrev pub HasRecord : List ℕ → ℕ → Type 0
+HasRecord t i = base i + record_size ≤ length t
 
 -- the last accepted time
 unfoldable pub clock_of : List ℕ → ℕ

@@ -2,10 +2,11 @@
 #![tactic(auto)]
 
 ghost use Rattle.std.specs.Prelude.{◌≡◌, ◌+◌, ◌*◌, ◌≤◌, ◌<◌, length};
-ghost use Rattle.base_layout.specs.Layout.{header_size, record_size, peers};
-ghost use Rattle.table_layout.specs.Table.{count, clock_of, gen_tid_of, settings_of, fours, intervals_of, cached_of, record_at, put_record, clear_record, put_clock, put_gen_tid, put_cached, tidnew_due_of, put_tidnew_due};
+ghost use Rattle.base_layout.specs.Layout.{peers};
+ghost use Rattle.table_layout.specs.Table.{HasHeader, HasRecord, count, clock_of, gen_tid_of, settings_of, fours, intervals_of, cached_of, record_at, put_record, clear_record, put_clock, put_gen_tid, put_cached, tidnew_due_of, put_tidnew_due};
 
 use base_layout::{HEADER_SIZE, RECORD_SIZE};
+use base_octets::Number;
 use table_record::Record;
 
 // 01, "What the reader carries": the settings, but for the two rows of intervals R.
@@ -21,91 +22,91 @@ pub struct Settings {
 
 // How many records a table has.
 pub fn records(t: &[u8]) -> usize
-    requires { header_size ≤ length t.now }
+    requires { HasHeader t.now }
     ensures { result ≡ count t.now }
 {
     (t.len() - HEADER_SIZE) / RECORD_SIZE
 }
 
+#[tactic(auto, unfolding(crate::specs::Table::clock_of))]
 pub fn clock_of(t: &[u8]) -> u64
-    requires { header_size ≤ length t.now }
+    requires { HasHeader t.now }
     ensures { result ≡ clock_of t.now }
 {
-    base_octets::get64(t, base_layout::CLOCK_AT)
+    u64::get(t, base_layout::CLOCK_AT)
 }
 
+#[tactic(auto, unfolding(crate::specs::Table::gen_tid_of))]
 pub fn gen_tid_of(t: &[u8]) -> u16
-    requires { header_size ≤ length t.now }
+    requires { HasHeader t.now }
     ensures { result ≡ gen_tid_of t.now }
 {
-    base_octets::get16(t, base_layout::GEN_TID_AT)
+    u16::get(t, base_layout::GEN_TID_AT)
 }
 
 // Whether the next Invoke of class 1 or 2 carries TIDnew.
+#[tactic(auto, unfolding(crate::specs::Table::tidnew_due_of))]
 pub fn tidnew_due(t: &[u8]) -> bool
-    requires { header_size ≤ length t.now }
+    requires { HasHeader t.now }
     ensures { result ≡ tidnew_due_of t.now }
 {
     t[base_layout::TIDNEW_DUE_AT] == 1
 }
 
+#[tactic(auto, unfolding(crate::specs::Table::settings_of))]
 pub fn settings_of(t: &[u8]) -> Settings
-    requires { header_size ≤ length t.now }
+    requires { HasHeader t.now }
     ensures { result ≡ settings_of t.now }
 {
     Settings {
         rcr_max: t[base_layout::RCR_MAX_AT],
         aec_max: t[base_layout::AEC_MAX_AT],
-        a: base_octets::get32(t, base_layout::A_AT),
-        w: base_octets::get32(t, base_layout::W_AT),
-        limit: base_octets::get32(t, base_layout::LIMIT_AT),
+        a: u32::get(t, base_layout::A_AT),
+        w: u32::get(t, base_layout::W_AT),
+        limit: u32::get(t, base_layout::LIMIT_AT),
     }
 }
 
+#[tactic(auto, unfolding(crate::specs::Table::fours))]
 fn row_of(t: &[u8], at: usize) -> [u32; 9]
     requires { at + 36 ≤ length t.now }
     ensures { result ≡ fours 9 at t.now }
 {
-    let a = base_octets::get32(t, at);
-    let b = base_octets::get32(t, at + 4);
-    let c = base_octets::get32(t, at + 8);
-    let d = base_octets::get32(t, at + 12);
-    let e = base_octets::get32(t, at + 16);
-    let f = base_octets::get32(t, at + 20);
-    let g = base_octets::get32(t, at + 24);
-    let h = base_octets::get32(t, at + 28);
-    let i = base_octets::get32(t, at + 32);
-    [a, b, c, d, e, f, g, h, i]
+    std::array::from_fn(|k| u32::get(t, at + 4 * k))
 }
 
 // 01: "one of two rows of nine intervals, class 1 and class 2".
+#[tactic(auto, unfolding(crate::specs::Table::intervals_of))]
 pub fn intervals_of(t: &[u8]) -> [[u32; 9]; 2]
-    requires { header_size ≤ length t.now }
+    requires { HasHeader t.now }
     ensures { result ≡ intervals_of t.now }
 {
-    let one = row_of(t, base_layout::ROW_1_AT);
-    let two = row_of(t, base_layout::ROW_2_AT);
-    [one, two]
+    [
+        row_of(t, base_layout::ROW_1_AT),
+        row_of(t, base_layout::ROW_2_AT),
+    ]
 }
 
 // The cached TID of a peer: 0 is none, else the TID and 1.
+#[tactic(auto, unfolding(crate::specs::Table::cached_of))]
 pub fn cached_of(t: &[u8], peer: usize) -> u16
-    requires { (header_size ≤ length t.now) × (peer < peers) }
+    requires { HasHeader t.now × (peer < peers) }
     ensures { result ≡ cached_of t.now peer }
 {
-    base_octets::get16(t, base_layout::CACHED_AT + peer * 2)
+    u16::get(t, base_layout::CACHED_AT + peer * 2)
 }
 
 pub fn record_at(t: &[u8], i: usize) -> Record
-    requires { header_size + i * record_size + record_size ≤ length t.now }
+    requires { HasRecord t.now i }
     ensures { result ≡ record_at t.now i }
 {
     let at = HEADER_SIZE + i * RECORD_SIZE;
     table_record::decode(&t[at..at + base_layout::FIELDS_SIZE])
 }
 
+#[tactic(auto, unfolding(crate::specs::Table::put_record))]
 pub fn put_record(t: &mut [u8], i: usize, r: Record)
-    requires { header_size + i * record_size + record_size ≤ length t.old }
+    requires { HasRecord t.old i }
     ensures { t.new ≡ put_record t.old i r }
 {
     let w = table_record::encode(r);
@@ -113,41 +114,42 @@ pub fn put_record(t: &mut [u8], i: usize, r: Record)
 }
 
 pub fn clear_record(t: &mut [u8], i: usize)
-    requires { header_size + i * record_size + record_size ≤ length t.old }
+    requires { HasRecord t.old i }
     ensures { t.new ≡ clear_record t.old i }
 {
-    let w = [0u8; RECORD_SIZE];
-    base_lists::store(t, HEADER_SIZE + i * RECORD_SIZE, &w);
+    let start = HEADER_SIZE + i * RECORD_SIZE;
+    t[start..start + RECORD_SIZE].fill(0);
 }
 
+#[tactic(auto, unfolding(crate::specs::Table::put_clock))]
 pub fn put_clock(t: &mut [u8], time: u64)
-    requires { header_size ≤ length t.old }
+    requires { HasHeader t.old }
     ensures { t.new ≡ put_clock t.old time }
 {
-    let w = base_octets::bytes64(time);
-    base_lists::store(t, base_layout::CLOCK_AT, &w);
+    time.put(t, base_layout::CLOCK_AT);
 }
 
+#[tactic(auto, unfolding(crate::specs::Table::put_gen_tid))]
 pub fn put_gen_tid(t: &mut [u8], tid: u16)
-    requires { header_size ≤ length t.old }
+    requires { HasHeader t.old }
     ensures { t.new ≡ put_gen_tid t.old tid }
 {
-    let w = base_octets::bytes16(tid);
-    base_lists::store(t, base_layout::GEN_TID_AT, &w);
+    tid.put(t, base_layout::GEN_TID_AT);
 }
 
+#[tactic(auto, unfolding(crate::specs::Table::put_tidnew_due))]
 pub fn put_tidnew_due(t: &mut [u8], due: bool)
-    requires { header_size ≤ length t.old }
+    requires { HasHeader t.old }
     ensures { t.new ≡ put_tidnew_due t.old due }
 {
-    let w = [base_lists::bit(due)];
+    let w = [u8::from(due)];
     base_lists::store(t, base_layout::TIDNEW_DUE_AT, &w);
 }
 
+#[tactic(auto, unfolding(crate::specs::Table::put_cached))]
 pub fn put_cached(t: &mut [u8], peer: usize, cached: u16)
-    requires { (header_size ≤ length t.old) × (peer < peers) }
+    requires { HasHeader t.old × (peer < peers) }
     ensures { t.new ≡ put_cached t.old peer cached }
 {
-    let w = base_octets::bytes16(cached);
-    base_lists::store(t, base_layout::CACHED_AT + peer * 2, &w);
+    cached.put(t, base_layout::CACHED_AT + peer * 2);
 }

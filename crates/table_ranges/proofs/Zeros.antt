@@ -3,15 +3,18 @@ use mathlib.Core.Path.{◌≡◌, refl, ◌∙◌}
 use mathlib.Core.List.{List}
 use mathlib.Core.Bool.{true, false}
 use mathlib.Core.Logic.{◌⊎◌, inl, inr}
-use Prim.Native.Nat.{ℕ, zero, suc, ◌+◌, ◌-◌, ◌≤◌, ◌<◌}
+use Prim.Native.Nat.{ℕ, zero, suc, ◌+◌, ◌-◌, ◌*◌, ◌≤◌, ◌<◌}
 use native.Mathlib.Omega.{arith}
 use native.Mathlib.Nat.{add-zero}
-use lib.ListN.{get_or}
+use lib.ListN.{length, get_or, take, drop}
+use lib.Seq.{drop-cons}
+use Rattle.std.specs.List.{fold}
 use lib.Bits.{bit_or}
 use lib.Dec.{eqb}
 use borrow.Author.Tests.{eqb-true, eq-eqb}
-use Rattle.base_lists.specs.Seq.{pick}
+use Rattle.base_lists.specs.Seq.{pick, every}
 use Rattle.base_lists.proofs.StoresAndParts.{both, both_fst, both_snd, every_all, every_at, lt_or_le}
+use Rattle.base_lists.proofs.Ranges.{up_to, kept_by_fold}
 use Rattle.base_lists.proofs.Every.{same_test, or_none}
 use Rattle.base_octets.specs.Octets.{num, gets}
 use Rattle.table_ranges.specs.Ranges.{Zeros, zeros}
@@ -82,3 +85,32 @@ unfolding num gets
 zeros_one_more t at m c e =
     let octet : num (gets 1 (at + m) t) ≡ get_or t (at + m) 0 = omega arith in
     rw octet at (zeros_more t at m 1 c e)
+
+-- octets gathered from the k-th on
+octets_gathered : (t : List ℕ) (at n k c : ℕ) → at + (k + n) ≤ length t → eqb c 0 ≡ zeros t at k → eqb (fold bit_or c (take n (drop (at + k) t))) 0 ≡ zeros t at (k + n)
+octets_gathered t at zero k c h e = rw add-zero e
+octets_gathered t at (suc n) k c h e =
+    let m : k + 1 + n ≡ k + suc n = omega arith in
+    let o : at + (k + 1) ≡ suc (at + k) = omega arith in
+    rw (drop-cons t (at + k) 0 (omega arith)) (rw (m, o) at (octets_gathered t at n (k + 1) (bit_or c (get_or t (at + k) 0)) (omega arith) (zeros_one_more t at k c e)))
+
+none_yet : (t : List ℕ) (at : ℕ) → eqb 0 0 ≡ zeros t at 0
+unfolding zeros every
+none_yet t at = refl
+
+-- what a fold over n words gathers is 0 exactly when their octets are
+pub words_zero : (t : List ℕ) (at n r : ℕ) → r ≡ fold (λ a i. bit_or a (num (gets 8 (at + i * 8) t))) 0 (up_to n) → eqb r 0 ≡ zeros t at (n * 8)
+words_zero t at n r e = kept_by_fold (λ a i. bit_or a (num (gets 8 (at + i * 8) t))) (λ k c. eqb c 0 ≡ zeros t at (k * 8)) more n 0 r e (none_yet t at)
+  where
+    more : (k c : ℕ) → eqb c 0 ≡ zeros t at (k * 8) → eqb (bit_or c (num (gets 8 (at + k * 8) t))) 0 ≡ zeros t at ((k + 1) * 8)
+    more k c e =
+        let o : k * 8 + 8 ≡ (k + 1) * 8 = omega arith in
+        rw o at (zeros_more t at (k * 8) 8 c e)
+
+-- and over n octets
+pub octets_zero : (t : List ℕ) (at n r : ℕ) → at + n ≤ length t → r ≡ fold bit_or 0 (take (at + n - at) (drop at t)) → eqb r 0 ≡ zeros t at n
+octets_zero t at n r h e =
+    let a : at + n - at ≡ n = omega arith in
+    let b : 0 + n ≡ n = omega arith in
+    let d : at + 0 ≡ at = omega arith in
+    rw e (rw a (rw (b, d) at (octets_gathered t at n 0 0 (omega arith) (none_yet t at))))

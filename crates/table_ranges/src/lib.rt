@@ -5,6 +5,8 @@ ghost use Rattle.std.specs.Prelude.{◌≡◌, ◌+◌, ◌*◌, ◌≤◌, leng
 ghost use Rattle.base_layout.specs.Layout.{time_bound, maximum_bound, tid_bound};
 ghost use Rattle.table_ranges.specs.Ranges.{interval, modes_ok, unknown_ok, zeros};
 
+use base_octets::Number;
+
 // The bound of the waiting limit, as wide as the settings' words.
 const LIMIT_BOUND: u64 = base_layout::INTERVAL_BOUND as u64;
 
@@ -32,11 +34,7 @@ pub fn maximum_ok(n: u8) -> bool
 pub fn interval_ok(v: u32) -> bool
     ensures { result ≡ interval v }
 {
-    if 1 <= v {
-        v <= base_layout::INTERVAL_BOUND
-    } else {
-        false
-    }
+    1 <= v && v <= base_layout::INTERVAL_BOUND
 }
 
 // The waiting limit goes with its mode.
@@ -44,17 +42,10 @@ pub fn interval_ok(v: u32) -> bool
 pub fn modes_ok(modes: u64, limit: u64) -> bool
     ensures { result ≡ modes_ok modes limit }
 {
-    if modes == 0 {
-        return limit == 0;
-    }
-    if modes == 1 {
-        if 1 <= limit {
-            limit <= LIMIT_BOUND
-        } else {
-            false
-        }
-    } else {
-        false
+    match modes {
+        0 => limit == 0,
+        1 => 1 <= limit && limit <= LIMIT_BOUND,
+        _ => false,
     }
 }
 
@@ -63,41 +54,21 @@ pub fn modes_ok(modes: u64, limit: u64) -> bool
 pub fn unknown_ok(k: u8) -> bool
     ensures { result ≡ unknown_ok k }
 {
-    if k == 0 {
-        return true;
-    }
-    if base_layout::UNKNOWN_LEAST <= k {
-        k <= base_layout::IDENTITY_BOUND
-    } else {
-        false
-    }
+    k == 0 || (base_layout::UNKNOWN_LEAST <= k && k <= base_layout::IDENTITY_BOUND)
 }
 
-// Whether n octets are zero.
+// Whether n octets are zero, gathered without an early exit.
 pub fn zero_octets(t: &[u8], at: usize, n: usize) -> bool
     requires { at + n ≤ length t.now }
     ensures { result ≡ zeros t.now at n }
 {
-    let mut bits = 0u8;
-    let mut i = 0;
-    while i < n {
-        bits = bits | t[at + i];
-        i += 1;
-    }
-    bits == 0
+    t[at..at + n].iter().fold(0, |bits, x| bits | *x) == 0
 }
 
 // Whether n words of eight octets are zero, gathered without an early exit: it becomes a few wide loads.
-#[tactic(auto, using(crate::proofs::Zeros::zeros_more), unfolding(crate::specs::Ranges::zeros, base_lists::specs::Seq::every))]
 pub fn zero_words(t: &[u8], at: usize, n: usize) -> bool
     requires { at + n * 8 ≤ length t.now }
     ensures { result ≡ zeros t.now at (n * 8) }
 {
-    let mut bits = 0u64;
-    let mut i = 0;
-    while i < n {
-        bits = bits | base_octets::get64(t, at + i * 8);
-        i += 1;
-    }
-    bits == 0
+    (0..n).fold(0, |bits, i| bits | u64::get(t, at + i * 8)) == 0
 }

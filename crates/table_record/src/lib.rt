@@ -3,19 +3,20 @@
 
 ghost use Rattle.std.specs.Prelude.{◌≡◌, ◌+◌, ◌*◌, ◌≤◌, ◌<◌, length};
 ghost use Rattle.base_layout.specs.Layout.{fields_size, tid_count};
-ghost use Rattle.table_record.specs.Record.{role_of, class_of, state_number, state_of, flags_of, sent_most, decoded, octets_of, send_tid, rcv_tid};
+ghost use Rattle.table_record.specs.Record.{role_of, class_of, state_number, role_number, state_of, flags_of, sent_most, decoded, octets_of, send_tid, rcv_tid};
 
+use base_octets::Number;
 use base_tids::{RcvTid, SendTid};
 
 // 01, "Events": which end of the transaction a record is.
-#[derive(Clone, Copy)]
+#[derive(Clone, Copy, PartialEq, Eq)]
 pub enum Role {
     Initiator,
     Responder,
 }
 
 // 01, "Events": the states of each role, each with its class, so that a state is always one for its role and class.
-#[derive(Clone, Copy)]
+#[derive(Clone, Copy, PartialEq, Eq)]
 pub enum State {
     Free,
     IResultWait1,
@@ -61,60 +62,54 @@ pub struct Record {
     pub sent: u32,
 }
 
-pub fn role_of(s: State) -> Role
-    ensures { result ≡ role_of s }
-{
-    match s {
-        State::Free => Role::Initiator,
-        State::IResultWait1 => Role::Initiator,
-        State::IResultWait2 => Role::Initiator,
-        State::IResultRespWait => Role::Initiator,
-        State::IWaitTimeout => Role::Initiator,
-        State::RTidokWait1 => Role::Responder,
-        State::RTidokWait2 => Role::Responder,
-        State::RInvokeRespWait1 => Role::Responder,
-        State::RInvokeRespWait2 => Role::Responder,
-        State::RResultWait => Role::Responder,
-        State::RResultRespWait => Role::Responder,
-        State::RWaitTimeout => Role::Responder,
+impl State {
+    pub fn role(self) -> Role
+        ensures { result ≡ role_of self }
+    {
+        match self {
+            State::Free
+            | State::IResultWait1
+            | State::IResultWait2
+            | State::IResultRespWait
+            | State::IWaitTimeout => Role::Initiator,
+            _ => Role::Responder,
+        }
+    }
+
+    // The class of its transaction; a free record has none, 0.
+    pub fn class(self) -> u8
+        ensures { result ≡ class_of self }
+    {
+        match self {
+            State::Free => 0,
+            State::IResultWait1
+            | State::RTidokWait1
+            | State::RInvokeRespWait1
+            | State::RWaitTimeout => 1,
+            _ => 2,
+        }
     }
 }
 
-pub fn class_of(s: State) -> u8
-    ensures { result ≡ class_of s }
-{
-    match s {
-        State::Free => 0,
-        State::IResultWait1 => 1,
-        State::IResultWait2 => 2,
-        State::IResultRespWait => 2,
-        State::IWaitTimeout => 2,
-        State::RTidokWait1 => 1,
-        State::RTidokWait2 => 2,
-        State::RInvokeRespWait1 => 1,
-        State::RInvokeRespWait2 => 2,
-        State::RResultWait => 2,
-        State::RResultRespWait => 2,
-        State::RWaitTimeout => 1,
-    }
-}
+// The number of a state in its octet; a free record is zero.
+impl From<State> for u8 {
+    ghost from_gives = { λ it number. number ≡ state_number it };
 
-pub fn state_number(s: State) -> u8
-    ensures { result ≡ state_number s }
-{
-    match s {
-        State::Free => 0,
-        State::IResultWait1 => 1,
-        State::IResultWait2 => 2,
-        State::IResultRespWait => 3,
-        State::IWaitTimeout => 4,
-        State::RTidokWait1 => 5,
-        State::RTidokWait2 => 6,
-        State::RInvokeRespWait1 => 7,
-        State::RInvokeRespWait2 => 8,
-        State::RResultWait => 9,
-        State::RResultRespWait => 10,
-        State::RWaitTimeout => 11,
+    fn from(it: State) -> u8 {
+        match it {
+            State::Free => 0,
+            State::IResultWait1 => 1,
+            State::IResultWait2 => 2,
+            State::IResultRespWait => 3,
+            State::IWaitTimeout => 4,
+            State::RTidokWait1 => 5,
+            State::RTidokWait2 => 6,
+            State::RInvokeRespWait1 => 7,
+            State::RInvokeRespWait2 => 8,
+            State::RResultWait => 9,
+            State::RResultRespWait => 10,
+            State::RWaitTimeout => 11,
+        }
     }
 }
 
@@ -139,25 +134,39 @@ fn state_of(n: u8) -> State
     }
 }
 
-// The TID that a record of this role and TID writes towards its peer.
-pub fn send_tid(role: Role, tid: u16) -> SendTid
-    requires { tid < tid_count }
-    ensures { result.0 ≡ send_tid role tid }
-{
-    match role {
-        Role::Initiator => SendTid(tid),
-        Role::Responder => SendTid(tid + base_layout::TID_COUNT),
+impl Role {
+    // The TID that a record of this role and TID writes towards its peer.
+    pub fn send_tid(self, tid: u16) -> SendTid
+        requires { tid < tid_count }
+        ensures { result.0 ≡ send_tid self tid }
+    {
+        match self {
+            Role::Initiator => SendTid(tid),
+            Role::Responder => SendTid(tid + base_layout::TID_COUNT),
+        }
+    }
+
+    // The TID that its peer writes towards it.
+    pub fn rcv_tid(self, tid: u16) -> RcvTid
+        requires { tid < tid_count }
+        ensures { result.0 ≡ rcv_tid self tid }
+    {
+        match self {
+            Role::Initiator => RcvTid(tid + base_layout::TID_COUNT),
+            Role::Responder => RcvTid(tid),
+        }
     }
 }
 
-// The TID that its peer writes towards it.
-pub fn rcv_tid(role: Role, tid: u16) -> RcvTid
-    requires { tid < tid_count }
-    ensures { result.0 ≡ rcv_tid role tid }
-{
-    match role {
-        Role::Initiator => RcvTid(tid + base_layout::TID_COUNT),
-        Role::Responder => RcvTid(tid),
+// The number of a role in the C interface.
+impl From<Role> for u64 {
+    ghost from_gives = { λ it number. number ≡ role_number it };
+
+    fn from(it: Role) -> u64 {
+        match it {
+            Role::Initiator => 0,
+            Role::Responder => 1,
+        }
     }
 }
 
@@ -165,30 +174,31 @@ pub fn rcv_tid(role: Role, tid: u16) -> RcvTid
 pub fn sent_most(rcr_max: u8) -> u32
     ensures { result ≡ sent_most rcr_max }
 {
-    (1 + rcr_max as u32) * (base_layout::OUTPUT_LEAST as u32)
+    (1 + u32::from(rcr_max)) * (base_layout::OUTPUT_LEAST as u32)
 }
 
+#[tactic(auto, using(crate::proofs::Flags::bit_below), unfolding(crate::specs::Record::flags_of))]
 fn flags_of(r: Record) -> u8
     ensures { result ≡ flags_of r }
 {
-    base_lists::bit(r.user_ack)
-        + 2 * base_lists::bit(r.hold_on)
-        + 4 * base_lists::bit(r.tidok_sent)
-        + 8 * base_lists::bit(r.hold_on_sent)
-        + 16 * base_lists::bit(r.tidnew)
+    u8::from(r.user_ack)
+        + 2 * u8::from(r.hold_on)
+        + 4 * u8::from(r.tidok_sent)
+        + 8 * u8::from(r.hold_on_sent)
+        + 16 * u8::from(r.tidnew)
 }
 
 // The record of 29 octets.
+#[tactic(auto, unfolding(crate::specs::Record::decoded))]
 pub fn decode(w: &[u8]) -> Record
     requires { fields_size ≤ length w.now }
     ensures { result ≡ decoded w.now }
 {
     let f = w[base_layout::FLAGS_OFFSET];
-    let state = state_of(w[0]);
     Record {
-        state: state,
+        state: state_of(w[0]),
         peer: w[base_layout::PEER_OFFSET],
-        tid: base_octets::get16(w, base_layout::TID_OFFSET),
+        tid: u16::get(w, base_layout::TID_OFFSET),
         user_ack: f % 2 == 1,
         hold_on: f / 2 % 2 == 1,
         tidok_sent: f / 4 % 2 == 1,
@@ -197,11 +207,11 @@ pub fn decode(w: &[u8]) -> Record
         rcr: Rcr(w[base_layout::RCR_OFFSET]),
         aec: Aec(w[base_layout::AEC_OFFSET]),
         exit_len: w[base_layout::EXIT_LEN_OFFSET],
-        deadline: base_octets::get64(w, base_layout::DEADLINE_OFFSET),
-        len: base_octets::get32(w, base_layout::LEN_OFFSET),
-        limit: base_octets::get32(w, base_layout::LIMIT_OFFSET),
+        deadline: u64::get(w, base_layout::DEADLINE_OFFSET),
+        len: u32::get(w, base_layout::LEN_OFFSET),
+        limit: u32::get(w, base_layout::LIMIT_OFFSET),
         unknown: w[base_layout::UNKNOWN_OFFSET],
-        sent: base_octets::get32(w, base_layout::SENT_OFFSET),
+        sent: u32::get(w, base_layout::SENT_OFFSET),
     }
 }
 
@@ -209,13 +219,12 @@ pub fn decode(w: &[u8]) -> Record
 pub fn encode(r: Record) -> [u8; base_layout::FIELDS_SIZE]
     ensures { result ≡ octets_of r }
 {
-    let state = r.state;
-    let s = state_number(state);
-    let t = base_octets::bytes16(r.tid);
-    let d = base_octets::bytes64(r.deadline);
-    let l = base_octets::bytes32(r.len);
-    let m = base_octets::bytes32(r.limit);
-    let n = base_octets::bytes32(r.sent);
+    let s = u8::from(r.state);
+    let t = r.tid.to_le_bytes();
+    let d = r.deadline.to_le_bytes();
+    let l = r.len.to_le_bytes();
+    let m = r.limit.to_le_bytes();
+    let n = r.sent.to_le_bytes();
     let f = flags_of(r);
     [
         s, r.peer, t[0], t[1], r.rcr.0, r.aec.0, f, r.exit_len, d[0], d[1], d[2], d[3], d[4], d[5],

@@ -1,34 +1,13 @@
 -- The words of the list: zeros after the pairs, and how many places before them. Assumes nothing.
-use Prim.Native.Nat.{ℕ, suc, ◌+◌, ◌-◌, ◌/◌, ◌≤◌, ◌<◌}
+use Prim.Native.Nat.{ℕ, suc, ◌+◌, ◌-◌, ◌/◌, ◌<◌}
 use native.Mathlib.Omega.{arith}
 use mathlib.Core.Path.{◌≡◌, refl, sym, ap, ◌∙◌}
 use mathlib.Core.List.{List, [], ◌∷◌, ◌++◌}
-use lib.ListN.{length, get_or, set, replicate, length-replicate, get_or-replicate}
+use lib.ListN.{length, set, replicate}
 use lib.Seq.{sets, set_comm}
 use Rattle.base_lists.specs.Seq.{put}
 use Rattle.base_lists.proofs.StoresAndParts.{put_append}
-use Rattle.base_lists.proofs.Stores.{Stored, stored_none, stored_more, stored_all}
 use Rattle.table_salvage.specs.Salvage.{pairs_size, list_of}
-
-abbrev zeros : ℕ → List ℕ
-zeros n = replicate n 0
-
--- after j turns the j words from `at` on are zero
-module _ (l₀ : List ℕ) (at n : ℕ) (room : at + n ≤ length l₀) where
-  room_for : at + length (zeros n) ≤ length l₀
-  room_for = rw length-replicate room
-
-  pub none_cleared : Stored l₀ at (zeros n) l₀ 0
-  none_cleared = stored_none l₀ at (zeros n) room_for
-
-  pub one_cleared : (l : List ℕ) (j : ℕ) → j < n → Stored l₀ at (zeros n) l j → Stored l₀ at (zeros n) (set l (at + j) 0) (j + 1)
-  one_cleared l j h s =
-      let below : j < length (zeros n) = rw length-replicate h in
-      let zero : get_or (zeros n) j 0 ≡ 0 = get_or-replicate n j 0 0 h in
-      rw zero at (stored_more l₀ at (zeros n) room_for l j below s)
-
-  pub all_cleared : (l : List ℕ) (j : ℕ) → n ≤ j → Stored l₀ at (zeros n) l j → l ≡ put l₀ at (zeros n)
-  all_cleared l j h s = stored_all l₀ at (zeros n) room_for l j (rw length-replicate h) s
 
 -- a store before others can as well come first
 set_first : (w l : List ℕ) (a b c : ℕ) → a < b → set (sets l b w) a c ≡ sets (set l a c) b w

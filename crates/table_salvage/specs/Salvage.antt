@@ -1,32 +1,32 @@
 -- Salvage (02, L12): "frees each record that has a field out of range, zeroes free ones that aren't zero, and then, where live ones share role, peer and TID, keeps the lowest place. It lists each place it changed, once, with the first of these reasons."
-use Rattle.std.specs.Prelude.{ℕ, zero, suc, ◌+◌, ◌-◌, ◌*◌, ◌/◌, List, [], ◌∷◌, ◌++◌, Bool, false, length, get_or, replicate, ltb, eqb}
+use Rattle.std.specs.Prelude.{ℕ, zero, suc, ◌+◌, ◌-◌, ◌*◌, ◌/◌, List, [], ◌∷◌, ◌++◌, Bool, false, length, get_or, replicate, ltb, eqb, Option, Some, None, is_some}
 use Rattle.base_layout.specs.Layout.{base, records_bound}
 use Rattle.base_lists.specs.Seq.{pick, put}
 use Rattle.base_numbers.specs.Numbers.{number_of}
 use Rattle.base_numbers.specs.declared.Refusal.TheVariants.{WrongSize, WrongHeader}
 use Rattle.table_record.specs.Record.{role_of, state_number}
 use Rattle.table_layout.specs.Table.{count, settings_of, record_at, clear_record}
-use Rattle.table_finding.specs.Finding.{is_found, named_of}
+use Rattle.table_finding.specs.Finding.{named_of}
 use Rattle.table_header_ok.specs.Header.{header_ok_is}
 use Rattle.table_record_ok.specs.OneRecord.{record_ok}
 use Rattle.table_well_formed.specs.WellFormed.{length_ok}
-use Rattle.table_salvage.specs.declared.Finding.{Finding}
-use Rattle.table_salvage.specs.declared.Finding.TheVariants.{Stays, OutOfRange, NotZero, SharesName}
+use Rattle.table_salvage.specs.declared.Reason.{Reason}
+use Rattle.table_salvage.specs.declared.Reason.TheVariants.{OutOfRange, NotZero, SharesName}
 
 -- the C interface: "1 a field out of range, 2 free and not zero, 3 it shares role, peer and TID with a live record of a lower place"; 0 is no reason
-abbrev pub reason_of : Finding → ℕ
-reason_of Stays = 0
-reason_of OutOfRange = 1
-reason_of NotZero = 2
-reason_of SharesName = 3
+abbrev pub reason_of : Option Reason → ℕ
+reason_of None = 0
+reason_of (Some OutOfRange) = 1
+reason_of (Some NotZero) = 2
+reason_of (Some SharesName) = 3
 
 -- record i is live, and one of the live records at a lower place has its role, peer and TID
 unfoldable pub shares_name : List ℕ → ℕ → Bool
-shares_name t i = pick (eqb (state_number (record_at t i).state) 0) false (is_found (named_of t i (role_of (record_at t i).state) (record_at t i).peer (record_at t i).tid))
+shares_name t i = pick (eqb (state_number (record_at t i).state) 0) false (is_some (named_of t i (role_of (record_at t i).state) (record_at t i).peer (record_at t i).tid))
 
 -- what is found of a place, where all lower places are salvaged: the test of a record first, then its name
-unfoldable pub finding_at : List ℕ → ℕ → Finding
-finding_at t i = pick (record_ok t (settings_of t) i) (pick (shares_name t i) SharesName Stays) (pick (eqb (get_or t (base i) 0) 0) NotZero OutOfRange)
+unfoldable pub finding_at : List ℕ → ℕ → Option Reason
+finding_at t i = pick (record_ok t (settings_of t) i) (pick (shares_name t i) (Some SharesName) None) (pick (eqb (get_or t (base i) 0) 0) (Some NotZero) (Some OutOfRange))
 
 abbrev pub reason_at : List ℕ → ℕ → ℕ
 reason_at t i = reason_of (finding_at t i)

@@ -15,10 +15,11 @@ pub enum Test {
 }
 
 // (TID - LastTID) modulo 32,768.
+#[tactic(auto, using(crate::proofs::Distance::wraps))]
 fn distance_of(tid: u16, last: u16) -> u16
     ensures { result ≡ distance tid last }
 {
-    std::num::wrapping_sub_u16(tid, last) % TID_COUNT
+    tid.wrapping_sub(last) % TID_COUNT
 }
 
 // The test of a TID against what is cached for its peer: 0 is none, else LastTID and 1.
@@ -30,12 +31,8 @@ pub fn tid_test(cached: u16, tid: u16) -> Test
         return Test::Verified;
     }
     let d = distance_of(tid, cached - 1);
-    if 1 <= d {
-        if d <= 16383 {
-            Test::Valid
-        } else {
-            Test::Verified
-        }
+    if 1 <= d && d <= 16383 {
+        Test::Valid
     } else {
         Test::Verified
     }
@@ -53,7 +50,7 @@ pub fn next_tid(tid: u16) -> u16
 pub fn carries_tidnew(class: u8, due: bool) -> bool
     ensures { result ≡ carries_tidnew class due }
 {
-    if class == 0 { false } else { due }
+    class != 0 && due
 }
 
 // Whether TIDnew is due after a request that leaves this GenTID.
@@ -61,10 +58,7 @@ pub fn carries_tidnew(class: u8, due: bool) -> bool
 pub fn due_after(class: u8, due: bool, next: u16) -> bool
     ensures { result ≡ due_after class due next }
 {
-    if next == 0 {
-        return true;
-    }
-    if class == 0 { due } else { false }
+    next == 0 || (class == 0 && due)
 }
 
 // Which of the two rows is that of a class.
@@ -75,10 +69,9 @@ fn row_number(class: u8) -> usize
 }
 
 // R[RCR] of a class.
+#[tactic(auto, unfolding(crate::specs::Tids::interval_of))]
 pub fn interval(rows: [[u32; 9]; 2], class: u8, rcr: Rcr) -> u32
     ensures { result ≡ interval_of rows class rcr }
 {
-    let c = row_number(class);
-    let n = (rcr.0 % 9) as usize;
-    rows[c][n]
+    rows[row_number(class)][usize::from(rcr.0 % 9)]
 }

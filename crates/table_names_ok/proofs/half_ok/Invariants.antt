@@ -7,6 +7,3 @@ use Rattle.table_names_ok.proofs.half_ok.Given as goal
 
 abbrev pub invariant-loop-i : goal.invariant-loop-i
 invariant-loop-i l = (l.from ≤ l.i) × (l.i - l.from ≤ l.n - l.from) × Keys l.t l.from l.keys (l.i - l.from) × (every (new_in_half l.t l.from) (l.i - l.from) ≡ true)
-
-abbrev pub decreases-loop-i : goal.decreases-loop-i
-decreases-loop-i l = l.n - l.i

@@ -36,4 +36,4 @@ clear_words-requires c =
 pub returns : goal.returns
 returns c =
     let s = c.salvage_places-k.ensures in
-    rw (← c.records-n.ensures) (s.1, list_filled c.args.list.now _ _ _ _ _ s.0 s.2 c.clear_words.ensures c.store_words.ensures)
+    rw (← c.records-n.ensures) (s.1, list_filled c.args.list.now _ _ _ _ _ s.0 s.2 c.clear_words.ensures c.store.ensures)

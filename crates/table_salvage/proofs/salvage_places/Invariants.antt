@@ -1,10 +1,6 @@
 -- Each turn does one place more.
-use Rattle.std.proofs.Common.{◌-◌}
 use Rattle.table_salvage.proofs.Turns.{Done}
 use Rattle.table_salvage.proofs.salvage_places.Given as goal
 
 abbrev pub invariant-loop-i : goal.invariant-loop-i
 invariant-loop-i l = Done l.fn.t l.fn.list l.n l.t l.list l.k l.i
-
-abbrev pub decreases-loop-i : goal.decreases-loop-i
-decreases-loop-i l = l.n - l.i
