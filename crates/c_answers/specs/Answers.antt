@@ -1,5 +1,5 @@
 -- The C interface's result and the words of an answer, 32, two of the cost and six more (01, "Numbers given back": "at most one PDU", "at most two indications, in order").
-use Rattle.std.specs.Prelude.{ℕ, ◌+◌, ◌≡◌, List, [], ◌∷◌, ◌++◌, Bool, true, false, eqb}
+use Rattle.std.specs.Prelude.{ℕ, ◌+◌, ◌≡◌, List, [], ◌∷◌, ◌++◌, Bool, true, false, eqb, Ok, Err}
 use Rattle.base_lists.specs.Seq.{pick, bit, put}
 use Rattle.base_numbers.specs.Numbers.{number_of}
 use Rattle.codec_items.specs.declared.Unknown.{Unknown}
@@ -22,8 +22,7 @@ use Rattle.step_plan.specs.declared.Holder.{Holder}
 use Rattle.step_plan.specs.declared.Call.{Call}
 use Rattle.step_plan.specs.declared.Told.{Told}
 use Rattle.step_plan.specs.declared.Told.TheVariants.{Nothing, Tid, Fired}
-use Rattle.step_outcome.specs.declared.Answer.{Answer}
-use Rattle.step_outcome.specs.declared.Answer.TheVariants.{Refused, Taken}
+use Rattle.step_outcome.specs.Carry.{Answer}
 use Rattle.c_answers.specs.declared.Cost.{Cost}
 
 -- nothing is no indication, all else is one
@@ -66,13 +65,13 @@ idle_words = answer_words 0 Nothing Shown.Nothing Shown.Nothing
 
 -- the C interface: "The result is 0 where the call was accepted", else the refusal's number
 unfoldable pub answer_number : Answer → ℕ
-answer_number (Refused r) = number_of r
-answer_number (Taken sent told first second) = 0
+answer_number (Err r) = number_of r
+answer_number (Ok a) = 0
 
 -- 01: "A refusal gives only its number"; the C interface: an accepted call writes words 0 to 31
 unfoldable pub answer_after : Answer → List ℕ → List ℕ
-answer_after (Refused r) words = words
-answer_after (Taken sent told first second) words = put words 0 (answer_words sent told first second)
+answer_after (Err r) words = words
+answer_after (Ok a) words = put words 0 (answer_words a.sent a.told a.first a.second)
 
 -- 02, L11: a call that concerns no initiator's record of class 1 or 2 tells no cost
 unfoldable pub no_cost : Cost

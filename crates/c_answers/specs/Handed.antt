@@ -1,8 +1,7 @@
 -- All that a caller of the C interface sees of a call (01, "How the answers are held").
-use Rattle.std.specs.Prelude.{ℕ, List}
+use Rattle.std.specs.Prelude.{ℕ, List, Ok, Err}
 use Rattle.base_lists.specs.Seq.{put}
-use Rattle.step_plan.specs.declared.Plan.{Plan}
-use Rattle.step_plan.specs.declared.Plan.TheVariants.{Refuse, Go}
+use Rattle.step_plan.specs.Steps.{Plan}
 use Rattle.step_outcome.specs.Carry.{Lent, Done, outcome}
 use Rattle.c_answers.specs.Answers.{answer_number, answer_after, no_cost, cost_by, cost_words, told_after}
 use Rattle.c_answers.specs.declared.Cost.{Cost}
@@ -24,13 +23,13 @@ handed d words = called (answer_number d.answer) d.table d.store d.output (answe
 
 -- 02, L11: the cost that a plan tells; a refusal tells none
 unfoldable pub plan_cost : List ℕ → Plan → Cost
-plan_cost t (Refuse r) = no_cost
-plan_cost t (Go step) = cost_by t step.changes
+plan_cost t (Err r) = no_cost
+plan_cost t (Ok step) = cost_by t step.changes
 
 -- 01: "A refusal gives only its number"; the C interface: an accepted call writes words 32 and 33
 unfoldable pub costed : List ℕ → Plan → List ℕ → List ℕ
-costed t (Refuse r) words = words
-costed t (Go step) words = put words 32 (cost_words (plan_cost t (Go step)))
+costed t (Err r) words = words
+costed t (Ok step) words = put words 32 (cost_words (plan_cost t (Ok step)))
 
 -- a plan carried out and handed over, with what its record has sent
 unfoldable pub handed_by : Lent → Plan → List ℕ → Called

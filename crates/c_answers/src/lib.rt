@@ -31,10 +31,7 @@ fn shown_count(i: Indication) -> u64
 {
     match i {
         Indication::Nothing => 0,
-        Indication::Invoke(_) => 1,
-        Indication::Confirm(_) => 1,
-        Indication::Result => 1,
-        Indication::Abort(_, _) => 1,
+        _ => 1,
     }
 }
 
@@ -42,20 +39,15 @@ fn told_tid(told: Told) -> u64
     ensures { result ≡ told_tid told }
 {
     match told {
-        Told::Nothing => 0,
-        Told::Tid(tid) => tid as u64,
-        Told::Fired(_, _, _) => 0,
+        Told::Tid(tid) => u64::from(tid),
+        _ => 0,
     }
 }
 
 fn told_fired(told: Told) -> u64
     ensures { result ≡ told_fired told }
 {
-    match told {
-        Told::Nothing => 0,
-        Told::Tid(_) => 0,
-        Told::Fired(_, _, _) => 1,
-    }
+    u64::from(matches!(told, Told::Fired(..)))
 }
 
 // Words 0 to 3: octets sent, indications, TID, fired.
@@ -72,9 +64,8 @@ fn record_words(told: Told) -> [u64; 4]
     ensures { result ≡ record_words told }
 {
     match told {
-        Told::Nothing => [0; 4],
-        Told::Tid(_) => [0; 4],
-        Told::Fired(role, peer, tid) => [step_shown::role_number(role), peer as u64, tid as u64, 0],
+        Told::Fired(role, peer, tid) => [u64::from(role), u64::from(peer), u64::from(tid), 0],
+        _ => [0; 4],
     }
 }
 
@@ -86,11 +77,10 @@ fn store_shown(answer: &mut [u64], at: usize, i: Indication, c: Context)
 {
     if shown_count(i) == 0 {
         let none = [0u64; 12];
-        base_lists::store_words(answer, at, &none);
+        base_lists::store(answer, at, &none);
     } else {
-        let s = step_shown::shown_of(i, c);
-        let words = step_shown::words_of(s);
-        base_lists::store_words(answer, at, &words);
+        let words = step_shown::words_of(step_shown::shown_of(i, c));
+        base_lists::store(answer, at, &words);
     }
 }
 
@@ -107,11 +97,11 @@ fn store_answer(
     ensures { answer.new ≡ put answer.old 0 (answer_words sent told (shown_of first c) (shown_of second c)) }
 {
     let head = head_words(sent, told, first, second);
-    base_lists::store_words(&mut *answer, 0, &head);
-    store_shown(&mut *answer, 4, first, c);
-    store_shown(&mut *answer, 16, second, c);
+    base_lists::store(answer, 0, &head);
+    store_shown(answer, 4, first, c);
+    store_shown(answer, 16, second, c);
     let record = record_words(told);
-    base_lists::store_words(answer, 28, &record);
+    base_lists::store(answer, 28, &record);
 }
 
 // A responder's record tells nothing.
@@ -120,10 +110,7 @@ fn role_cost(role: Role, sent: u32, ended: bool) -> Cost
     ensures { result ≡ role_cost role sent ended }
 {
     match role {
-        Role::Initiator => Cost {
-            sent: sent,
-            ended: ended,
-        },
+        Role::Initiator => Cost { sent, ended },
         Role::Responder => no_cost(),
     }
 }
@@ -131,11 +118,11 @@ fn role_cost(role: Role, sent: u32, ended: bool) -> Cost
 fn record_cost(r: Record, ended: bool) -> Cost
     ensures { result ≡ role_cost (role_of r.state) r.sent ended }
 {
-    let state = r.state;
-    role_cost(table_record::role_of(state), r.sent, ended)
+    role_cost(r.state.role(), r.sent, ended)
 }
 
 // A call that concerns no initiator's record.
+#[tactic(auto, unfolding(crate::specs::Answers::no_cost))]
 pub fn no_cost() -> Cost
     ensures { result ≡ no_cost }
 {
@@ -163,32 +150,31 @@ pub fn report(answer: &mut [u64], cost: Cost)
     requires { 34 ≤ length answer.old }
     ensures { answer.new ≡ put answer.old 32 (cost_words cost) }
 {
-    let words = [cost.sent as u64, base_lists::bit(cost.ended) as u64];
-    base_lists::store_words(answer, 32, &words);
+    let words = [u64::from(cost.sent), u64::from(cost.ended)];
+    base_lists::store(answer, 32, &words);
 }
 
 // Words 34 to 39 of an accepted call, in which the first unknown item of its PDU is told; gives the call's result on.
+#[inline(never)]
 #[tactic(auto, unfolding(crate::specs::Answers::more_words, crate::specs::Answers::told_after))]
 pub fn tell(answer: &mut [u64], res: u64, item: Unknown) -> u64
     requires { answer_size ≤ length answer.old }
     ensures { (result ≡ res) × (answer.new ≡ told_after res answer.old (more_words item)) }
 {
     if res == 0 {
-        let more = [item.identity as u64, item.place as u64, 0, 0, 0, 0];
-        base_lists::store_words(answer, 34, &more);
+        let more = [u64::from(item.identity), item.place as u64, 0, 0, 0, 0];
+        base_lists::store(answer, 34, &more);
     }
     res
 }
 
 // Gives the words of a turn that sent this much.
+#[tactic(auto, unfolding(crate::specs::Answers::turn_words))]
 pub fn give(answer: &mut [u64], sent: usize, turn: Turn, h: Holder, c: Call)
     requires { (32 ≤ length answer.old) × (h.place < records_bound) }
     ensures { answer.new ≡ put answer.old 0 (turn_words sent turn h c) }
 {
-    let first = turn.first;
-    let second = turn.second;
-    let tells = c.tells;
+    let told = step_plan::told_of(c.tells, h);
     let context = step_plan::context_of(h, c);
-    let told = step_plan::told_of(tells, h);
-    store_answer(answer, sent, told, first, second, context);
+    store_answer(answer, sent, told, turn.first, turn.second, context);
 }

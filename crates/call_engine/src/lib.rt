@@ -1,10 +1,9 @@
 // The engine's seven calls: each is judged, and an accepted one is carried out at once.
 #![tactic(auto)]
 
-ghost use Rattle.std.specs.Prelude.{◌≡◌, [], ◌+◌, ◌*◌, ◌≤◌, ◌<◌, length};
+ghost use Rattle.std.specs.Prelude.{◌≡◌, [], ◌+◌, ◌*◌, ◌≤◌, ◌<◌, length, Ok};
 ghost use Rattle.base_layout.specs.Layout.{header_size, record_size, time_bound, tid_bound, records_bound};
 ghost use Rattle.table_layout.specs.Table.{record_at};
-ghost use Rattle.step_plan.specs.declared.Plan.TheVariants.{Go};
 ghost use Rattle.step_outcome.specs.Carry.{Ready, lent};
 ghost use Rattle.c_answers.specs.Handed.{called, handed_by};
 ghost use Rattle.call_primitive.specs.Primitives.{primitive_plan};
@@ -13,11 +12,8 @@ ghost use Rattle.call_plans.specs.Calls.{Call};
 ghost use Rattle.call_engine.specs.Calls.{gives, PlanReady};
 
 use call_primitive::Primitive;
-use call_receive::Arrives;
-use call_refusal::{Judged, Placed};
 use call_request::Request;
 use row_events::Event;
-use table_finding::Found;
 
 // A user's request of a class with its data.
 pub fn request(
@@ -34,21 +30,20 @@ pub fn request(
     requires { 34 ≤ length answer.old }
     ensures { called result table.new store.new output.new answer.new ≡ gives (Call.Request time peer class user_ack) (lent table.old store.old output.old user.now []) answer.old }
 {
-    let none = [0u8; 1];
     let q = Request {
-        time: time,
-        peer: peer,
-        class: class,
-        user_ack: user_ack,
+        time,
+        peer,
+        class,
+        user_ack,
         len: user.len(),
     };
     match call_request::request_place(table, store.len(), output.len(), q) {
-        Placed::Refuse(r) => base_numbers::number(r),
-        Placed::At(place) => {
+        Err(r) => u64::from(r),
+        Ok(place) => {
             let coming = call_request::request_opens(table, place, q);
             let g = call_request::request_given(q);
             let c = call_request::request_call(q);
-            step_carrying::carry(table, store, output, answer, user, &none[..0], coming, g, c)
+            step_carrying::carry(table, store, output, answer, user, &[], coming, g, c)
         }
     }
 }
@@ -69,8 +64,8 @@ fn primitive(
     ensures { called result table.new store.new output.new answer.new ≡ handed_by (lent table.old store.old output.old given.now exit.now) (primitive_plan table.old (length store.old) (length output.old) p) answer.old }
 {
     match call_primitive::primitive_place(table, store.len(), output.len(), p) {
-        Placed::Refuse(r) => base_numbers::number(r),
-        Placed::At(place) => {
+        Err(r) => u64::from(r),
+        Ok(place) => {
             let coming = call_primitive::primitive_row(table, place, p);
             let g = call_primitive::primitive_given(p);
             let c = call_primitive::primitive_call(p);
@@ -94,18 +89,17 @@ pub fn answer(
     requires { 34 ≤ length answer.old }
     ensures { called result table.new store.new output.new answer.new ≡ gives (Call.Answer time role peer tid) (lent table.old store.old output.old [] exit.now) answer.old }
 {
-    let none = [0u8; 1];
     let p = Primitive {
         event: Event::UserAnswer,
-        time: time,
-        role: role,
-        peer: peer,
-        tid: tid,
+        time,
+        role,
+        peer,
+        tid,
         reason: 0,
         len: 0,
         exit_len: exit.len(),
     };
-    primitive(table, store, output, answer, &none[..0], exit, p)
+    primitive(table, store, output, answer, &[], exit, p)
 }
 
 // A user's result with its data.
@@ -123,18 +117,17 @@ pub fn result(
     requires { 34 ≤ length answer.old }
     ensures { called result table.new store.new output.new answer.new ≡ gives (Call.Result time role peer tid) (lent table.old store.old output.old user.now []) answer.old }
 {
-    let none = [0u8; 1];
     let p = Primitive {
         event: Event::UserResult,
-        time: time,
-        role: role,
-        peer: peer,
-        tid: tid,
+        time,
+        role,
+        peer,
+        tid,
         reason: 0,
         len: user.len(),
         exit_len: 0,
     };
-    primitive(table, store, output, answer, user, &none[..0], p)
+    primitive(table, store, output, answer, user, &[], p)
 }
 
 // A user's abort with its reason.
@@ -152,19 +145,17 @@ pub fn abort(
     requires { 34 ≤ length answer.old }
     ensures { called result table.new store.new output.new answer.new ≡ gives (Call.Abort time role peer tid reason) (lent table.old store.old output.old [] []) answer.old }
 {
-    let none = [0u8; 1];
     let p = Primitive {
         event: Event::UserAbort,
-        time: time,
-        role: role,
-        peer: peer,
-        tid: tid,
-        reason: reason,
+        time,
+        role,
+        peer,
+        tid,
+        reason,
         len: 0,
         exit_len: 0,
     };
-    let nothing = &none[..0];
-    primitive(table, store, output, answer, nothing, nothing, p)
+    primitive(table, store, output, answer, &[], &[], p)
 }
 
 // One received PDU.
@@ -180,7 +171,6 @@ pub fn receive(
     requires { 34 ≤ length answer.old }
     ensures { called result table.new store.new output.new answer.new ≡ gives (Call.Receive time peer) (lent table.old store.old output.old octets.now []) answer.old }
 {
-    let none = [0u8; 1];
     match call_receive::receive_refusal(
         table,
         store.len(),
@@ -189,20 +179,20 @@ pub fn receive(
         peer,
         octets.len(),
     ) {
-        Judged::Refuse(r) => base_numbers::number(r),
-        Judged::Accept => {
+        Err(r) => u64::from(r),
+        Ok(()) => {
             match call_receive::receive_turn(table, time, (peer % 256) as u8, octets) {
-                Arrives::Nobody => step_carrying::idle(table, answer, time),
-                Arrives::Turns(coming, g, c) => step_carrying::carry(
+                None => step_carrying::idle(table, answer, time),
+                Some(a) => step_carrying::carry(
                     table,
                     store,
                     output,
                     answer,
                     octets,
-                    &none[..0],
-                    coming,
-                    g,
-                    c,
+                    &[],
+                    a.coming,
+                    a.given,
+                    a.call,
                 ),
             }
         }
@@ -221,14 +211,12 @@ fn fire(
     requires ready { Ready (lent table.old store.old output.old [] []) (fired_step table.old place time) }
     requires record_size_in_bounds { (header_size + place * record_size + record_size ≤ length table.old) × (place < records_bound) × ((record_at table.old place).tid ≤ tid_bound) × (time ≤ time_bound) }
     requires in_bounds { 34 ≤ length answer.old }
-    ensures { called result table.new store.new output.new answer.new ≡ handed_by (lent table.old store.old output.old [] []) (Go (fired_step table.old place time)) answer.old }
+    ensures { called result table.new store.new output.new answer.new ≡ handed_by (lent table.old store.old output.old [] []) (Ok (fired_step table.old place time)) answer.old }
 {
-    let none = [0u8; 1];
     let coming = call_timer::fired_row(table, place);
     let g = call_timer::fired_given(time);
     let c = call_timer::fired_call();
-    let nothing = &none[..0];
-    step_carrying::carry(table, store, output, answer, nothing, nothing, coming, g, c)
+    step_carrying::carry(table, store, output, answer, &[], &[], coming, g, c)
 }
 
 // The timer: fires one due record.
@@ -243,11 +231,11 @@ pub fn timer(
     ensures { called result table.new store.new output.new answer.new ≡ gives (Call.Timer time) (lent table.old store.old output.old [] []) answer.old }
 {
     match call_refusal::entry(table, store.len(), output.len(), time) {
-        Judged::Refuse(r) => base_numbers::number(r),
-        Judged::Accept => {
+        Err(r) => u64::from(r),
+        Ok(()) => {
             match table_finding::due(table, table_layout::records(table), time) {
-                Found::At(place) => fire(table, store, output, answer, place, time),
-                Found::Nothing => step_carrying::idle(table, answer, time),
+                Some(place) => fire(table, store, output, answer, place, time),
+                None => step_carrying::idle(table, answer, time),
             }
         }
     }
@@ -268,7 +256,7 @@ pub fn fire_named(
     ensures { called result table.new store.new output.new answer.new ≡ gives (Call.Fire time role peer tid) (lent table.old store.old output.old [] []) answer.old }
 {
     match call_fire::fire_place(table, store.len(), output.len(), time, role, peer, tid) {
-        Placed::Refuse(r) => base_numbers::number(r),
-        Placed::At(place) => fire(table, store, output, answer, place, time),
+        Err(r) => u64::from(r),
+        Ok(place) => fire(table, store, output, answer, place, time),
     }
 }

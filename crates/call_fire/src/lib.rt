@@ -6,24 +6,18 @@ ghost use Rattle.table_finding.specs.Finding.{Within};
 ghost use Rattle.call_fire.specs.Fires.{as_fire, named_place, fire_place};
 
 use base_numbers::Refusal;
-use call_refusal::{Judged, Placed};
-use table_finding::Found;
 
 // With the named record found: number 8 or 9, or its place.
 #[tactic(auto, using(crate::proofs::Placing::gives_nine, crate::proofs::Placing::is_placed, crate::proofs::Placing::gives_eight))]
-fn named_place(t: &[u8], found: Found, time: u64) -> Placed
+fn named_place(t: &[u8], found: Option<usize>, time: u64) -> Result<usize, Refusal>
     requires { Within t.now found }
     ensures { result ≡ named_place t.now time found }
 {
-    match found {
-        Found::At(i) => {
-            if table_finding::is_due(t, i, time) {
-                Placed::At(i)
-            } else {
-                Placed::Refuse(Refusal::NotAllowed)
-            }
-        }
-        Found::Nothing => Placed::Refuse(Refusal::NoRecord),
+    let place = found.ok_or(Refusal::NoRecord)?;
+    if table_finding::is_due(t, place, time) {
+        Ok(place)
+    } else {
+        Err(Refusal::NotAllowed)
     }
 }
 
@@ -37,11 +31,9 @@ pub fn fire_place(
     role: u64,
     peer: u64,
     tid: u64,
-) -> Placed
+) -> Result<usize, Refusal>
     ensures { result ≡ fire_place t.now store output (as_fire time role peer tid) }
 {
-    match call_refusal::peer_entry(t, store, output, time, peer) {
-        Judged::Refuse(r) => Placed::Refuse(r),
-        Judged::Accept => named_place(t, call_primitive::named_by(t, role, peer, tid), time),
-    }
+    call_refusal::peer_entry(t, store, output, time, peer)?;
+    named_place(t, call_primitive::named_by(t, role, peer, tid), time)
 }

@@ -1,7 +1,7 @@
 -- The engine's calls as one type (01, "Events"; 02, L3), and what each promises as one equation: its answer, and what table, store and output then hold. A further call is one more case of each definition here.
 use Rattle.std.specs.Prelude.{ℕ, ◌≡◌, Bool, true, false, [], length}
 use Rattle.row_events.specs.declared.Event.TheVariants.{UserAnswer, UserResult, UserAbort}
-use Rattle.step_plan.specs.declared.Plan.{Plan}
+use Rattle.step_plan.specs.Steps.{Plan}
 use Rattle.call_request.specs.Requests.{request_plan}
 use Rattle.call_request.specs.declared.Request.{Request as Requesting}
 use Rattle.call_primitive.specs.Primitives.{primitive_plan}

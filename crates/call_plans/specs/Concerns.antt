@@ -1,18 +1,16 @@
 -- Which live record a call concerns (demand 3: "the one it names, opens or fires"): a primitive names it, a PDU is addressed to it, the timer call fires the one that is due, a firing the due one that it names (02, L3).
-use Rattle.std.specs.Prelude.{ℕ, ◌≡◌, Bool, true, false, List}
+use Rattle.std.specs.Prelude.{ℕ, ◌≡◌, Bool, true, false, List, Some}
 use Rattle.table_record.specs.Record.{role_number, role_of}
 use Rattle.table_record.specs.declared.Record.{Record}
 use Rattle.table_layout.specs.Table.{count, record_at}
 use Rattle.table_finding.specs.Finding.{due_of}
 use Rattle.table_finding.specs.Searched.{Due}
-use Rattle.table_finding.specs.declared.Found.TheVariants as Found
 use Rattle.codec_reading.specs.Read.{pdu_of}
 use Rattle.row_events.specs.declared.Event.{Event}
 use Rattle.row_events.specs.declared.Row.TheVariants as Row
 use Rattle.row_turns.specs.declared.Given.{Given}
 use Rattle.step_live.specs.Turning.{row_at}
 use Rattle.step_arrivals.specs.Arrivals.{name_of, event_of}
-use Rattle.step_arrivals.specs.declared.Name.TheVariants.{Of}
 use Rattle.step_outcome.specs.Carry.{Lent}
 use Rattle.call_plans.specs.Calls.{Call}
 
@@ -24,7 +22,7 @@ pub record NamedBy (role peer tid : ℕ) (r : Record) : Type 0 where
 
 -- a PDU from the record's peer has its TID, and the role that its type and the TID's top bit say
 pub record Addressed (octets : List ℕ) (peer : ℕ) (r : Record) : Type 0 where
-  pub name_is : name_of octets ≡ Of (role_of r.state) r.tid
+  pub name_is : name_of octets ≡ Some (role_of r.state, r.tid)
   pub peer_is : r.peer ≡ peer
 
 -- a firing gives the record's name, and the record is due
@@ -49,7 +47,7 @@ Concerns (Call.Answer time role peer tid) l place = NamedBy role peer tid (recor
 Concerns (Call.Result time role peer tid) l place = NamedBy role peer tid (record_at l.table place)
 Concerns (Call.Abort time role peer tid reason) l place = NamedBy role peer tid (record_at l.table place)
 Concerns (Call.Receive time peer) l place = Addressed l.given peer (record_at l.table place)
-Concerns (Call.Timer time) l place = due_of l.table (count l.table) time ≡ Found.At place
+Concerns (Call.Timer time) l place = due_of l.table (count l.table) time ≡ Some place
 Concerns (Call.Fire time role peer tid) l place = FiredBy time role peer tid (record_at l.table place)
 
 -- a primitive that its state allows (01: "a primitive without [a row] gets 9")

@@ -4,20 +4,17 @@ use native.Mathlib.Omega.{arith}
 use borrow.Author.Tests.{ltb-false}
 use mathlib.Core.Path.{◌≡◌, refl}
 use mathlib.Core.List.{List}
+use Rattle.std.specs.Prelude.{Ok, Option, Some, None}
 use Rattle.base_layout.specs.Layout.{time_bound, peers, exit_bound, cell_size}
 use Rattle.base_lists.proofs.StoresAndParts.{true_false}
 use Rattle.table_layout.specs.Table.{clock_of}
 use Rattle.table_well_formed.specs.WellFormed.{Fitting}
 use Rattle.row_events.specs.declared.Row.TheVariants as Row
-use Rattle.table_finding.specs.declared.Found.{Found}
-use Rattle.table_finding.specs.declared.Found.TheVariants.{At, Nothing}
 use Rattle.step_opening.specs.Opens.{place_for}
 use Rattle.law_places.specs.Places.{LiveAt}
 use Rattle.step_live.specs.Turning.{row_at}
 use Rattle.step_plan.specs.declared.Step.{Step}
-use Rattle.step_plan.specs.declared.Plan.TheVariants as Plan
 use Rattle.call_refusal.specs.Judging.{lowest}
-use Rattle.call_refusal.specs.declared.Judged.TheVariants.{Accept}
 use Rattle.call_refusal.proofs.Fits.{accepted, fits, in_time}
 use Rattle.call_refusal.proofs.Going.{goes}
 use Rattle.call_refusal.proofs.Stages.{both_stages}
@@ -33,7 +30,7 @@ pub record Entered (t : List ℕ) (store output : ℕ) (p : Primitive) : Type 0 
   pub bound : p.time ≤ time_bound
   pub peer : p.peer < peers
 
-pub entered : (t : List ℕ) (store output : ℕ) (p : Primitive) → lowest (entry_tests t store output p) ≡ Accept → Entered t store output p
+pub entered : (t : List ℕ) (store output : ℕ) (p : Primitive) → lowest (entry_tests t store output p) ≡ Ok tt → Entered t store output p
 entered t store output p e =
     let none = accepted (entry_tests t store output p) e in
     record {
@@ -52,11 +49,11 @@ pub record Ready (t : List ℕ) (p : Primitive) (place : ℕ) : Type 0 where
   pub row : row_at t place p.event ≡ Row.NotAllowed → ⊥
 
 module _ (t : List ℕ) (p : Primitive) where
-  pub ready : (found : Found) → found_for t p ≡ found → lowest (found_tests t found p) ≡ Accept → Ready t p (place_for found)
+  pub ready : (found : Option ℕ) → found_for t p ≡ found → lowest (found_tests t found p) ≡ Ok tt → Ready t p (place_for found)
   unfolding place_for not_allowed
-  ready (At i) e h =
-      let none = accepted (found_tests t (At i) p) h in
-      let short = not_too_much t p (At i) none.0 in
+  ready (Some i) e h =
+      let none = accepted (found_tests t (Some i) p) h in
+      let short = not_too_much t p (Some i) none.0 in
       record {
         names = found_named t p i e;
         message = short.message;
@@ -64,7 +61,7 @@ module _ (t : List ℕ) (p : Primitive) where
         exit_taken = λ x. exit_not_refused t i (short.allowed x.some) x.class x.responder;
         row = row_allows (row_at t i p.event) none.1.1.0;
       }
-  ready Nothing e h = true_false (accepted (found_tests t Nothing p) h).1.0
+  ready None e h = true_false (accepted (found_tests t None p) h).1.0
 
 -- what is known of a primitive whose plan is this step
 pub record Accepted (t : List ℕ) (store output : ℕ) (p : Primitive) (step : Step) : Type 0 where
@@ -74,7 +71,7 @@ pub record Accepted (t : List ℕ) (store output : ℕ) (p : Primitive) (step : 
   pub record_ready : Ready t p place
   pub live : LiveAt t place
 
-pub primitive_accepted : (t : List ℕ) (store output : ℕ) (p : Primitive) (step : Step) → primitive_plan t store output p ≡ Plan.Go step → Accepted t store output p step
+pub primitive_accepted : (t : List ℕ) (store output : ℕ) (p : Primitive) (step : Step) → primitive_plan t store output p ≡ Ok step → Accepted t store output p step
 unfolding primitive_plan
 primitive_accepted t store output p step e =
     let both = goes (primitive_tests t store output p) (primitive_step t (place_for (found_for t p)) p) step e in

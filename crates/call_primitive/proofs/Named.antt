@@ -7,6 +7,7 @@ use mathlib.Core.List.{List}
 use mathlib.Core.Bool.{Bool, true, false}
 use mathlib.Core.Logic.{◌⊎◌, inl, inr}
 use lib.Dec.{eqb}
+use Rattle.std.specs.Prelude.{Option, Some, None}
 use Rattle.base_layout.specs.Layout.{tid_bound}
 use Rattle.base_lists.specs.Seq.{pick}
 use Rattle.base_lists.proofs.StoresAndParts.{told}
@@ -17,8 +18,6 @@ use Rattle.table_layout.specs.Table.{count, record_at}
 use Rattle.table_names_ok.specs.Names.{SameName}
 use Rattle.table_well_formed.specs.WellFormed.{WellFormed}
 use Rattle.table_finding.specs.Finding.{Within, named_of}
-use Rattle.table_finding.specs.declared.Found.{Found}
-use Rattle.table_finding.specs.declared.Found.TheVariants.{At, Nothing}
 use Rattle.table_finding.specs.Searched.{Called}
 use Rattle.table_finding.proofs.Searches.{named_found, named_nothing}
 use Rattle.law_places.specs.Places.{LiveAt}
@@ -35,9 +34,9 @@ role_of_number Responder Initiator e = absurd (omega (arith, e))
 role_of_number Responder Responder e = refl
 
 -- what was found, or that nothing was, in the words of the primitive
-abbrev Says : List ℕ → Primitive → Found → Type 0
-Says t p (At i) = Named t p i
-Says t p Nothing = NoneNamed t p
+abbrev Says : List ℕ → Primitive → Option ℕ → Type 0
+Says t p (Some i) = Named t p i
+Says t p None = NoneNamed t p
 
 module _ (t : List ℕ) (p : Primitive) where
   called : (a : Role) → p.role ≡ role_number a → (i : ℕ) → Named t p i → Called a p.peer p.tid (record_at t i)
@@ -48,8 +47,8 @@ module _ (t : List ℕ) (p : Primitive) where
     tid_is = n.tid;
   }
 
-  by_role : (a : Role) → p.role ≡ role_number a → (f : Found) → named_of t (count t) a p.peer p.tid ≡ f → Says t p f
-  by_role a r (At i) e =
+  by_role : (a : Role) → p.role ≡ role_number a → (f : Option ℕ) → named_of t (count t) a p.peer p.tid ≡ f → Says t p f
+  by_role a r (Some i) e =
       let l = named_found t (count t) a p.peer p.tid i e in
       record {
         inside = l.below;
@@ -58,7 +57,7 @@ module _ (t : List ℕ) (p : Primitive) where
         peer = l.is_so.peer_is;
         tid = l.is_so.tid_is;
       }
-  by_role a r Nothing e = λ i n. named_nothing t (count t) a p.peer p.tid e i n.inside (called a r i n)
+  by_role a r None e = λ i n. named_nothing t (count t) a p.peer p.tid e i n.inside (called a r i n)
 
   -- a role number other than 0 and 1 names no record
   pub no_role : (p.role ≡ 0 → ⊥) → (p.role ≡ 1 → ⊥) → NoneNamed t p
@@ -72,16 +71,16 @@ module _ (t : List ℕ) (p : Primitive) where
   unfolding named_by
   named_says = go (eqb p.role 0) (eqb p.role 1) refl refl
     where
-      go : (a b : Bool) → eqb p.role 0 ≡ a → eqb p.role 1 ≡ b → Says t p (pick a (named_of t (count t) Initiator p.peer p.tid) (pick b (named_of t (count t) Responder p.peer p.tid) Nothing))
+      go : (a b : Bool) → eqb p.role 0 ≡ a → eqb p.role 1 ≡ b → Says t p (pick a (named_of t (count t) Initiator p.peer p.tid) (pick b (named_of t (count t) Responder p.peer p.tid) None))
       go true b e f = by_role Initiator (eqb-true p.role 0 e) (named_of t (count t) Initiator p.peer p.tid) refl
       go false true e f = by_role Responder (eqb-true p.role 1 f) (named_of t (count t) Responder p.peer p.tid) refl
       go false false e f = no_role (eqb-false p.role 0 e) (eqb-false p.role 1 f)
 
   -- what is found is the record that is named
-  pub found_named : (i : ℕ) → found_for t p ≡ At i → Named t p i
+  pub found_named : (i : ℕ) → found_for t p ≡ Some i → Named t p i
   found_named i e = rw e at named_says
 
-  pub found_none : found_for t p ≡ Nothing → NoneNamed t p
+  pub found_none : found_for t p ≡ None → NoneNamed t p
   found_none e = rw e at named_says
 
   pub named_live : (i : ℕ) → Named t p i → LiveAt t i
@@ -94,9 +93,9 @@ module _ (t : List ℕ) (p : Primitive) where
   pub found_within : WellFormed t → Within t (found_for t p)
   found_within w = go (found_for t p) refl
     where
-      go : (f : Found) → found_for t p ≡ f → Within t f
-      go (At i) e = record_there t i w (found_named i e).inside
-      go Nothing e = tt
+      go : (f : Option ℕ) → found_for t p ≡ f → Within t f
+      go (Some i) e = record_there t i w (found_named i e).inside
+      go None e = tt
 
   pub one_named : WellFormed t → (i j : ℕ) → Named t p i → Named t p j → i ≡ j
   one_named w i j n m = go (told (eqb i j))

@@ -2,16 +2,15 @@
 use Prim.Native.Nat.{ℕ, ◌≤◌}
 use mathlib.Core.Path.{◌≡◌, refl}
 use mathlib.Core.List.{List}
+use Rattle.std.specs.Prelude.{Ok, Err}
 use Rattle.base_layout.specs.Layout.{time_bound, exit_bound, cell_size}
 use Rattle.base_numbers.specs.declared.Refusal.{Refusal}
-use Rattle.step_plan.specs.declared.Plan.TheVariants as Plan
 use Rattle.step_opening.specs.Opens.{place_for}
 use Rattle.step_live.specs.Turning.{row_at}
 use Rattle.step_carrying.specs.Coming.{coming_step, InRange}
 use Rattle.step_carrying.proofs.Steps.{live_is, live_in_range}
 use Rattle.law_places.proofs.Whole.{Whole, live_whole}
 use Rattle.call_refusal.specs.Judging.{lowest}
-use Rattle.call_refusal.specs.declared.Placed.TheVariants as Placed
 use Rattle.call_refusal.proofs.Going.{goes}
 use Rattle.call_refusal.proofs.Stages.{both_stages}
 use Rattle.call_refusal.proofs.Placing.{place_at, goes_at, refuses_so}
@@ -28,15 +27,15 @@ pub record Placing (t : List ℕ) (p : Primitive) (place : ℕ) : Type 0 where
   pub exit : p.exit_len ≤ exit_bound
 
 module _ (t : List ℕ) (store output : ℕ) (p : Primitive) where
-  pub plan_goes : (place : ℕ) → Placed.At place ≡ primitive_place t store output p → primitive_plan t store output p ≡ Plan.Go (primitive_step t place p)
+  pub plan_goes : (place : ℕ) → Ok place ≡ primitive_place t store output p → primitive_plan t store output p ≡ Ok (primitive_step t place p)
   unfolding primitive_place primitive_plan
   plan_goes place e = goes_at (lowest (primitive_tests t store output p)) (place_for (found_for t p)) place (λ i. primitive_step t i p) e
 
-  pub plan_refuses : (r : Refusal) → Placed.Refuse r ≡ primitive_place t store output p → primitive_plan t store output p ≡ Plan.Refuse r
+  pub plan_refuses : (r : Refusal) → Err r ≡ primitive_place t store output p → primitive_plan t store output p ≡ Err r
   unfolding primitive_place primitive_plan
   plan_refuses r e = refuses_so (lowest (primitive_tests t store output p)) (place_for (found_for t p)) r (primitive_step t (place_for (found_for t p)) p) e
 
-  pub placed : (place : ℕ) → Placed.At place ≡ primitive_place t store output p → Placing t p place
+  pub placed : (place : ℕ) → Ok place ≡ primitive_place t store output p → Placing t p place
   unfolding primitive_place primitive_plan
   placed place e =
       let both = goes (primitive_tests t store output p) (primitive_step t (place_for (found_for t p)) p) (primitive_step t place p) (plan_goes place e) in

@@ -7,6 +7,7 @@ use mathlib.Core.List.{List}
 use mathlib.Core.Bool.{Bool, true, false}
 use mathlib.Core.Logic.{◌⊎◌, inl, inr}
 use lib.Dec.{ltb, eqb}
+use Rattle.std.specs.Prelude.{Option, Some}
 use Rattle.base_layout.specs.Layout.{exit_bound, cell_size}
 use Rattle.base_lists.specs.Seq.{pick}
 use Rattle.base_lists.proofs.StoresAndParts.{true_false, both, both_fst, both_snd}
@@ -17,8 +18,6 @@ use Rattle.table_layout.specs.Table.{record_at}
 use Rattle.row_events.specs.declared.Row.{Row}
 use Rattle.row_events.specs.Events.{same_row_is}
 use Rattle.row_events.proofs.Finite.{same_row}
-use Rattle.table_finding.specs.declared.Found.{Found}
-use Rattle.table_finding.specs.declared.Found.TheVariants.{At}
 use Rattle.call_primitive.specs.Primitives.{is_responder, exit_refused, too_much_is, refuses_row}
 use Rattle.call_primitive.specs.declared.Primitive.{Primitive}
 
@@ -27,19 +26,19 @@ is_responder_holds Initiator e = true_false (sym e)
 is_responder_holds Responder e = refl
 
 module _ (t : List ℕ) (i : ℕ) where
-  pub exit_refused_holds : exit_refused t (At i) ≡ true → (class_of (record_at t i).state ≡ 2) × (role_of (record_at t i).state ≡ Responder)
+  pub exit_refused_holds : exit_refused t (Some i) ≡ true → (class_of (record_at t i).state ≡ 2) × (role_of (record_at t i).state ≡ Responder)
   unfolding exit_refused
   exit_refused_holds e =
       let class = eqb (class_of (record_at t i).state) 2 in
       let role = is_responder (role_of (record_at t i).state) in
       (eqb-true (class_of (record_at t i).state) 2 (both_fst class role e), is_responder_holds (role_of (record_at t i).state) (both_snd class role e))
 
-  pub exit_not_refused : exit_refused t (At i) ≡ false → class_of (record_at t i).state ≡ 2 → role_of (record_at t i).state ≡ Responder → ⊥
+  pub exit_not_refused : exit_refused t (Some i) ≡ false → class_of (record_at t i).state ≡ 2 → role_of (record_at t i).state ≡ Responder → ⊥
   unfolding exit_refused
   exit_not_refused e class role =
       true_false (sym (both (eqb (class_of (record_at t i).state) 2) (is_responder (role_of (record_at t i).state)) (eq-eqb (class_of (record_at t i).state) 2 class) (ap is_responder role)) ∙ e)
 
-module _ (t : List ℕ) (p : Primitive) (found : Found) where
+module _ (t : List ℕ) (p : Primitive) (found : Option ℕ) where
   abbrev pub TooMuchBy : Type 0
   TooMuchBy = (cell_size < p.len) ⊎ (exit_bound < p.exit_len) ⊎ ((1 ≤ p.exit_len) × (exit_refused t found ≡ true))
 

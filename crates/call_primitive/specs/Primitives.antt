@@ -1,5 +1,6 @@
 -- A user's answer, result or abort (01, "Events"): its refusals, and the step of an accepted one.
-use Rattle.std.specs.Prelude.{ℕ, ◌≤◌, ◌<◌, ◌≡◌, List, [], ◌∷◌, ◌++◌, Bool, true, false, not, ltb, eqb}
+use Rattle.std.specs.Prelude.{ℕ, ◌≤◌, ◌<◌, ◌≡◌, List, [], ◌∷◌, ◌++◌, Bool, true, false, not, ltb, eqb, Result, Option, Some, None, is_some}
+use Rattle.base_numbers.specs.declared.Refusal.{Refusal}
 use Rattle.base_layout.specs.Layout.{exit_bound, cell_size}
 use Rattle.base_lists.specs.Seq.{pick}
 use Rattle.base_numbers.specs.declared.Refusal.TheVariants.{TooLong, NoRecord, NotAllowed}
@@ -8,19 +9,16 @@ use Rattle.table_record.specs.declared.Role.{Role}
 use Rattle.table_record.specs.declared.Role.TheVariants.{Initiator, Responder}
 use Rattle.table_layout.specs.Table.{count, record_at}
 use Rattle.table_record_ok.specs.OneRecord.{Live}
-use Rattle.table_finding.specs.Finding.{is_found, named_of}
-use Rattle.table_finding.specs.declared.Found.{Found}
+use Rattle.table_finding.specs.Finding.{named_of}
 use Rattle.row_events.specs.Events.{same_row_is}
 use Rattle.row_events.specs.declared.Event.{Event}
 use Rattle.row_events.specs.declared.Row.{Row}
 use Rattle.row_turns.specs.declared.Given.{Given}
 use Rattle.call_refusal.specs.Judging.{Test, test, lowest, plan_by, placed_by, peer_tests}
-use Rattle.call_refusal.specs.declared.Placed.{Placed}
-use Rattle.step_plan.specs.Steps.{no_part}
+use Rattle.step_plan.specs.Steps.{no_part, Plan}
 use Rattle.step_plan.specs.declared.Call.{Call}
 use Rattle.step_plan.specs.declared.Tells.TheVariants.{Nothing}
 use Rattle.step_plan.specs.declared.Step.{Step}
-use Rattle.step_plan.specs.declared.Plan.{Plan}
 use Rattle.step_opening.specs.Opens.{place_for}
 use Rattle.step_live.specs.Turning.{row_at, live_step}
 use Rattle.step_carrying.specs.declared.Coming.{Coming}
@@ -50,19 +48,19 @@ NoneNamed t p = (i : ℕ) → Named t p i → ⊥
 -- ---- the tests of its refusals
 
 -- the record that a primitive names; a role other than 0 and 1 names none
-unfoldable pub named_by : List ℕ → ℕ → ℕ → ℕ → Found
+unfoldable pub named_by : List ℕ → ℕ → ℕ → ℕ → Option ℕ
 named_by t role peer tid =
-    pick (eqb role 0) (named_of t (count t) Initiator peer tid) (pick (eqb role 1) (named_of t (count t) Responder peer tid) Found.Nothing)
+    pick (eqb role 0) (named_of t (count t) Initiator peer tid) (pick (eqb role 1) (named_of t (count t) Responder peer tid) None)
 
 abbrev pub is_responder : Role → Bool
 is_responder Initiator = false
 is_responder Responder = true
 
-unfoldable pub exit_refused : List ℕ → Found → Bool
-exit_refused t (Found.At i) = pick (eqb (class_of (record_at t i).state) 2) (is_responder (role_of (record_at t i).state)) false
-exit_refused t Found.Nothing = false
+unfoldable pub exit_refused : List ℕ → Option ℕ → Bool
+exit_refused t (Some i) = pick (eqb (class_of (record_at t i).state) 2) (is_responder (role_of (record_at t i).state)) false
+exit_refused t None = false
 
-unfoldable pub too_much_is : List ℕ → Primitive → Found → Bool
+unfoldable pub too_much_is : List ℕ → Primitive → Option ℕ → Bool
 too_much_is t p found =
     pick (ltb cell_size p.len) true (pick (ltb exit_bound p.exit_len) true (pick (ltb 0 p.exit_len) (exit_refused t found) false))
 
@@ -71,24 +69,24 @@ unfoldable pub refuses_row : Row → Bool
 refuses_row row = same_row_is row Row.NotAllowed
 
 -- "a primitive without [a row] gets 9"
-unfoldable pub not_allowed : List ℕ → Found → Event → Bool
-not_allowed t (Found.At i) event = refuses_row (row_at t i event)
-not_allowed t Found.Nothing event = false
+unfoldable pub not_allowed : List ℕ → Option ℕ → Event → Bool
+not_allowed t (Some i) event = refuses_row (row_at t i event)
+not_allowed t None event = false
 
 -- numbers 1 to 3
 abbrev pub entry_tests : List ℕ → ℕ → ℕ → Primitive → List Test
 entry_tests t store output p = peer_tests t store output p.time p.peer
 
 -- numbers 4, 8, 9, of the record that is named
-abbrev pub found_tests : List ℕ → Found → Primitive → List Test
+abbrev pub found_tests : List ℕ → Option ℕ → Primitive → List Test
 found_tests t found p =
     test TooLong (too_much_is t p found)
-    ∷ test NoRecord (not (is_found found))
+    ∷ test NoRecord (not (is_some found))
     ∷ test NotAllowed (not_allowed t found p.event)
     ∷ []
 
 -- the record that the primitive names
-abbrev pub found_for : List ℕ → Primitive → Found
+abbrev pub found_for : List ℕ → Primitive → Option ℕ
 found_for t p = named_by t p.role p.peer p.tid
 
 -- all of them
@@ -116,10 +114,10 @@ primitive_plan t store output p =
 -- ---- what the code takes apart: the place of its record, and the row
 
 -- with the named record found
-unfoldable pub found_place : List ℕ → Found → Primitive → Placed
+unfoldable pub found_place : List ℕ → Option ℕ → Primitive → Result ℕ Refusal
 found_place t found p = placed_by (lowest (found_tests t found p)) (place_for found)
 
-unfoldable pub primitive_place : List ℕ → ℕ → ℕ → Primitive → Placed
+unfoldable pub primitive_place : List ℕ → ℕ → ℕ → Primitive → Result ℕ Refusal
 primitive_place t store output p = placed_by (lowest (primitive_tests t store output p)) (place_for (found_for t p))
 
 unfoldable pub primitive_row : List ℕ → ℕ → Primitive → Coming

@@ -4,17 +4,14 @@
 ghost use Rattle.std.specs.Prelude.{◌≡◌, ◌+◌, ◌*◌, ◌≤◌, length};
 ghost use Rattle.base_layout.specs.Layout.{header_size, record_size, exit_bound, cell_size};
 ghost use Rattle.table_finding.specs.Finding.{Within};
-ghost use Rattle.call_primitive.specs.Primitives.{named_by, is_responder, exit_refused, too_much_is, refuses_row, not_allowed, found_tests, found_place, primitive_place, primitive_row, primitive_given, primitive_call};
+ghost use Rattle.call_primitive.specs.Primitives.{named_by, is_responder, exit_refused, too_much_is, refuses_row, found_place, primitive_place, primitive_row, primitive_given, primitive_call};
 ghost use Rattle.table_well_formed.specs.WellFormed.{WellFormed};
-ghost use Rattle.call_refusal.specs.Judging.{lowest};
 
 use base_numbers::Refusal;
-use call_refusal::{Judged, Placed};
 use row_events::{Event, Row};
 use row_turns::Given;
 use step_carrying::Coming;
 use step_plan::{Call, Part, Tells};
-use table_finding::Found;
 use table_record::Role;
 
 // A primitive: which, when, the record it names, an abort's reason, the lengths of its data and of its exit information.
@@ -32,64 +29,47 @@ pub struct Primitive {
 
 // The record that a primitive names; a role other than 0 and 1 names none.
 #[tactic(auto, unfolding(crate::specs::Primitives::named_by))]
-pub fn named_by(t: &[u8], role: u64, peer: u64, tid: u64) -> Found
+pub fn named_by(t: &[u8], role: u64, peer: u64, tid: u64) -> Option<usize>
     requires { WellFormed t.now }
     ensures { result ≡ named_by t.now role peer tid }
 {
-    if role == 0 {
-        return table_finding::named(t, table_layout::records(t), Role::Initiator, peer, tid);
+    match role {
+        0 => table_finding::named(t, table_layout::records(t), Role::Initiator, peer, tid),
+        1 => table_finding::named(t, table_layout::records(t), Role::Responder, peer, tid),
+        _ => None,
     }
-    if role == 1 {
-        return table_finding::named(t, table_layout::records(t), Role::Responder, peer, tid);
-    }
-    Found::Nothing
 }
 
 // A live class 2 responder record takes no exit information.
 #[tactic(auto, unfolding(crate::specs::Primitives::exit_refused))]
-fn exit_refused(t: &[u8], found: Found) -> bool
+fn exit_refused(t: &[u8], found: Option<usize>) -> bool
     requires { Within t.now found }
     ensures { result ≡ exit_refused t.now found }
 {
     match found {
-        Found::At(i) => {
-            let r = table_layout::record_at(t, i);
-            let state = r.state;
-            if table_record::class_of(state) == 2 {
-                is_responder(table_record::role_of(state))
-            } else {
-                false
-            }
+        Some(i) => {
+            let state = table_layout::record_at(t, i).state;
+            state.class() == 2 && is_responder(state.role())
         }
-        Found::Nothing => false,
+        None => false,
     }
 }
 
 fn is_responder(role: Role) -> bool
     ensures { result ≡ is_responder role }
 {
-    match role {
-        Role::Initiator => false,
-        Role::Responder => true,
-    }
+    matches!(role, Role::Responder)
 }
 
 // Number 4: too much data or exit information, or exit information where none may be.
 #[tactic(auto, unfolding(crate::specs::Primitives::too_much_is))]
-fn too_much(t: &[u8], p: Primitive, found: Found) -> bool
+fn too_much(t: &[u8], p: Primitive, found: Option<usize>) -> bool
     requires { Within t.now found }
     ensures { result ≡ too_much_is t.now p found }
 {
-    if base_layout::CELL_SIZE < p.len {
-        return true;
-    }
-    if base_layout::EXIT_BOUND < p.exit_len {
-        return true;
-    }
-    if 0 < p.exit_len {
-        return exit_refused(t, found);
-    }
-    false
+    base_layout::CELL_SIZE < p.len
+        || base_layout::EXIT_BOUND < p.exit_len
+        || 0 < p.exit_len && exit_refused(t, found)
 }
 
 // The row of a primitive that isn't allowed.
@@ -97,64 +77,37 @@ fn too_much(t: &[u8], p: Primitive, found: Found) -> bool
 fn refuses(row: Row) -> bool
     ensures { result ≡ refuses_row row }
 {
-    match row {
-        Row::NotAllowed => true,
-        _ => false,
-    }
+    matches!(row, Row::NotAllowed)
 }
 
-// Number 9: the row of the primitive in the record's state.
-#[tactic(auto, unfolding(crate::specs::Primitives::not_allowed))]
-fn not_allowed(t: &[u8], found: Found, event: Event) -> bool
-    requires { Within t.now found }
-    ensures { result ≡ not_allowed t.now found event }
-{
-    match found {
-        Found::At(i) => refuses(step_live::row_at(t, i, event)),
-        Found::Nothing => false,
-    }
-}
-
-// The lowest of the numbers 4, 8, 9 that applies, with the named record found.
-#[tactic(auto, unfolding(call_refusal::specs::Judging::lowest))]
-fn found_refusal(t: &[u8], found: Found, p: Primitive) -> Judged
-    requires { Within t.now found }
-    ensures { result ≡ lowest (found_tests t.now found p) }
-{
-    let event = p.event;
-    if too_much(t, p, found) {
-        return Judged::Refuse(Refusal::TooLong);
-    }
-    if !table_finding::is_found(found) {
-        return Judged::Refuse(Refusal::NoRecord);
-    }
-    if not_allowed(t, found, event) {
-        return Judged::Refuse(Refusal::NotAllowed);
-    }
-    Judged::Accept
-}
-
-// With the named record found: a number, or its place.
-#[tactic(auto, unfolding(crate::specs::Primitives::found_place))]
-fn with_found(t: &[u8], found: Found, p: Primitive) -> Placed
+// With the named record found: the lowest of the numbers 4, 8, 9 that applies, or its place.
+#[tactic(auto, unfolding(crate::specs::Primitives::found_place, crate::specs::Primitives::not_allowed, call_refusal::specs::Judging::lowest, step_opening::specs::Opens::place_for))]
+fn with_found(t: &[u8], found: Option<usize>, p: Primitive) -> Result<usize, Refusal>
     requires { Within t.now found }
     ensures { result ≡ found_place t.now found p }
 {
-    match found_refusal(t, found, p) {
-        Judged::Refuse(r) => Placed::Refuse(r),
-        Judged::Accept => Placed::At(step_opening::place_for(found)),
+    if too_much(t, p, found) {
+        return Err(Refusal::TooLong);
     }
+    let place = found.ok_or(Refusal::NoRecord)?;
+    if refuses(step_live::row_at(t, place, p.event)) {
+        return Err(Refusal::NotAllowed);
+    }
+    Ok(place)
 }
 
 // A primitive over a store and an output of these lengths: a number, or the place of its record.
 #[tactic(auto, using(crate::proofs::Named::found_within, crate::proofs::Accepted::entered))]
-pub fn primitive_place(t: &[u8], store: usize, output: usize, p: Primitive) -> Placed
+pub fn primitive_place(
+    t: &[u8],
+    store: usize,
+    output: usize,
+    p: Primitive,
+) -> Result<usize, Refusal>
     ensures { result ≡ primitive_place t.now store output p }
 {
-    match call_refusal::peer_entry(t, store, output, p.time, p.peer) {
-        Judged::Refuse(r) => Placed::Refuse(r),
-        Judged::Accept => with_found(t, named_by(t, p.role, p.peer, p.tid), p),
-    }
+    call_refusal::peer_entry(t, store, output, p.time, p.peer)?;
+    with_found(t, named_by(t, p.role, p.peer, p.tid), p)
 }
 
 // The row that an accepted primitive meets in the record at this place.
@@ -163,9 +116,7 @@ pub fn primitive_row(t: &[u8], place: usize, p: Primitive) -> Coming
     requires { header_size + place * record_size + record_size ≤ length t.now }
     ensures { result ≡ primitive_row t.now place p }
 {
-    let event = p.event;
-    let row = step_live::row_at(t, place, event);
-    Coming::Live(place, row)
+    Coming::Live(place, step_live::row_at(t, place, p.event))
 }
 
 #[tactic(auto, unfolding(crate::specs::Primitives::primitive_given))]

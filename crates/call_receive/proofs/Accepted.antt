@@ -7,11 +7,11 @@ use mathlib.Core.List.{List}
 use mathlib.Core.Bool.{Bool, true, false}
 use lib.ListN.{length}
 use lib.Dec.{ltb, eqb}
+use Rattle.std.specs.Prelude.{Ok}
 use Rattle.base_layout.specs.Layout.{peers}
 use Rattle.base_lists.specs.Seq.{pick}
 use Rattle.base_lists.proofs.StoresAndParts.{true_false}
 use Rattle.step_plan.specs.declared.Step.{Step}
-use Rattle.step_plan.specs.declared.Plan.TheVariants as Plan
 use Rattle.call_refusal.proofs.Fits.{accepted}
 use Rattle.call_refusal.proofs.Going.{goes, Entered, entered}
 use Rattle.call_receive.specs.Receives.{receive_tests, receive_step, receive_plan}
@@ -34,7 +34,7 @@ pub record Accepted (t : List ℕ) (store output time peer : ℕ) (s : List ℕ)
   pub some : 1 ≤ length s
   pub most : length s ≤ 1500
 
-pub receive_accepted : (t : List ℕ) (store output time peer : ℕ) (s : List ℕ) (step : Step) → receive_plan t store output time peer s ≡ Plan.Go step → Accepted t store output time peer s step
+pub receive_accepted : (t : List ℕ) (store output time peer : ℕ) (s : List ℕ) (step : Step) → receive_plan t store output time peer s ≡ Ok step → Accepted t store output time peer s step
 unfolding receive_plan
 receive_accepted t store output time peer s step e =
     let g = goes (receive_tests t store output time peer (length s)) (receive_step t time (peer % peers) s) step e in

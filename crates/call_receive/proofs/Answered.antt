@@ -3,6 +3,7 @@ use Prim.Native.Nat.{ℕ}
 use mathlib.Core.Path.{◌≡◌, refl}
 use mathlib.Core.List.{List, [], ◌∷◌}
 use mathlib.Core.Bool.{true, false}
+use Rattle.std.specs.Prelude.{Some, None}
 use Rattle.codec_pdu.specs.Pdu.{sound_of, bare_of}
 use Rattle.codec_pdu.specs.declared.Pdu.{Pdu}
 use Rattle.codec_reading.specs.Read.{pdu_of, head_of, kind_of, items_after, after_head, finished}
@@ -10,7 +11,6 @@ use Rattle.table_record.specs.declared.Role.{Role}
 use Rattle.table_record.specs.declared.Role.TheVariants.{Initiator}
 use Rattle.table_layout.specs.Table.{count}
 use Rattle.table_finding.specs.Finding.{named_of}
-use Rattle.table_finding.specs.declared.Found.TheVariants as Found
 use Rattle.row_events.specs.declared.Opening.{Opening}
 use Rattle.row_columns.specs.Columns.{act_with, provider, protoerr, invalidtid, ended}
 use Rattle.row_columns.specs.declared.Send.{Send}
@@ -18,7 +18,6 @@ use Rattle.row_columns.specs.declared.Indication.TheVariants as Indication
 use Rattle.row_entries.specs.Acts.{opening_act}
 use Rattle.row_choice.specs.Rows.{opening_of}
 use Rattle.step_arrivals.specs.Arrivals.{tid_of, name_of, invokes_us, is_tidve, arrived_of}
-use Rattle.step_arrivals.specs.declared.Name.TheVariants.{Of}
 use Rattle.row_turns.specs.Turns.{new_record, turn_of, record_after, opening_turn}
 use Rattle.step_changes.specs.Changes.{change_of, cached_after}
 use Rattle.step_shown.specs.Shows.{shown_of}
@@ -49,7 +48,7 @@ ended_sends t opening h time p send e =
       none_told = refl;
     }
 
-module _ (t : List ℕ) (time peer : ℕ) (s : List ℕ) (role : Role) (tid : ℕ) (names : name_of s ≡ Of role tid) (none : named_of t (count t) role peer tid ≡ Found.Nothing) where
+module _ (t : List ℕ) (time peer : ℕ) (s : List ℕ) (role : Role) (tid : ℕ) (names : name_of s ≡ Some (role, tid)) (none : named_of t (count t) role peer tid ≡ None) where
   answered : (opening : Opening) (send : Send) → arrival_opening t peer tid s (pdu_of s) ≡ opening → opening_act opening ≡ ended send Indication.Nothing
       → OnlySends (receive_step t time peer s) time send role tid
   unfolding unmatched_step arriver_of
@@ -76,7 +75,7 @@ module _ (t : List ℕ) (time peer : ℕ) (s : List ℕ) (role : Role) (tid : �
   malformed_ignored i m = answered Opening.Ignored Send.Nothing (rw (i, m) refl) refl
 
 -- 01: "TIDve 1C 80 05 unmatched gives 20 00 05 02": Abort 2 by an initiator with TID 5
-pub tidve_unmatched : (t : List ℕ) (time peer : ℕ) → named_of t (count t) Initiator peer 5 ≡ Found.Nothing
+pub tidve_unmatched : (t : List ℕ) (time peer : ℕ) → named_of t (count t) Initiator peer 5 ≡ None
     → OnlySends (receive_step t time peer (0x1C ∷ 0x80 ∷ 0x05 ∷ [])) time (Send.Abort 0 2) Initiator 5
 unfolding name_of tid_of invokes_us is_tidve pdu_of head_of kind_of items_after after_head finished sound_of bare_of
 tidve_unmatched t time peer none = tidve_answered t time peer (0x1C ∷ 0x80 ∷ 0x05 ∷ []) Initiator 5 refl none refl refl refl

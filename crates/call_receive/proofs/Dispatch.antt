@@ -6,39 +6,37 @@ use mathlib.Core.Bool.{Bool, true, false}
 use lib.ListN.{length}
 use lib.Dec.{ltb}
 use borrow.Author.Tests.{lt-ltb, le-ltb, eq-eqb}
+use Rattle.std.specs.Prelude.{Option, Some, None}
 use Rattle.base_lists.specs.Seq.{pick}
 use Rattle.codec_reading.specs.Read.{type_of, pdu_of}
 use Rattle.table_record.specs.declared.Role.{Role}
 use Rattle.table_layout.specs.Table.{count}
 use Rattle.table_finding.specs.Finding.{named_of}
-use Rattle.table_finding.specs.declared.Found.TheVariants as Found
 use Rattle.step_arrivals.specs.Arrivals.{tid_of, name_of}
-use Rattle.step_arrivals.specs.declared.Name.{Name}
-use Rattle.step_arrivals.specs.declared.Name.TheVariants.{Nobody, Of}
 use Rattle.step_plan.specs.Steps.{idle_step}
 use Rattle.call_receive.specs.Receives.{taken_step, unmatched_step, naming_step, receive_step}
 
 -- either way the same
-either : (b : Bool) (n : Name) → pick b n n ≡ n
+either : (b : Bool) (n : Option (Role × ℕ)) → pick b n n ≡ n
 either true n = refl
 either false n = refl
 
 module _ (t : List ℕ) (time peer : ℕ) (s : List ℕ) where
-  pub nobody_idle : name_of s ≡ Nobody → receive_step t time peer s ≡ idle_step time
+  pub nobody_idle : name_of s ≡ None → receive_step t time peer s ≡ idle_step time
   unfolding receive_step
   nobody_idle e = rw e refl
 
-  short_nobody : length s < 3 → name_of s ≡ Nobody
+  short_nobody : length s < 3 → name_of s ≡ None
   unfolding name_of
   short_nobody h = simp (lt-ltb _ _ h)
 
-  invoke_nobody : type_of s ≡ 1 → 32768 ≤ tid_of s → name_of s ≡ Nobody
+  invoke_nobody : type_of s ≡ 1 → 32768 ≤ tid_of s → name_of s ≡ None
   unfolding name_of
-  invoke_nobody e h = simp (le-ltb _ _ h, eq-eqb _ _ e, either (ltb (length s) 3) Nobody)
+  invoke_nobody e h = simp (le-ltb _ _ h, eq-eqb _ _ e, either (ltb (length s) 3) None)
 
-  result_nobody : type_of s ≡ 2 → tid_of s < 32768 → name_of s ≡ Nobody
+  result_nobody : type_of s ≡ 2 → tid_of s < 32768 → name_of s ≡ None
   unfolding name_of
-  result_nobody e h = simp (lt-ltb _ _ h, eq-eqb _ _ e, either (ltb (length s) 3) Nobody)
+  result_nobody e h = simp (lt-ltb _ _ h, eq-eqb _ _ e, either (ltb (length s) 3) None)
 
   -- 01: "a shorter one names none"
   pub short_idle : length s < 3 → receive_step t time peer s ≡ idle_step time
@@ -52,11 +50,11 @@ module _ (t : List ℕ) (time peer : ℕ) (s : List ℕ) where
   result_ignored e h = nobody_idle (result_nobody e h)
 
   -- the live record that is named takes the PDU
-  pub live_takes : (role : Role) (tid i : ℕ) → name_of s ≡ Of role tid → named_of t (count t) role peer tid ≡ Found.At i → receive_step t time peer s ≡ taken_step t i time (pdu_of s)
+  pub live_takes : (role : Role) (tid i : ℕ) → name_of s ≡ Some (role, tid) → named_of t (count t) role peer tid ≡ Some i → receive_step t time peer s ≡ taken_step t i time (pdu_of s)
   unfolding receive_step naming_step
   live_takes role tid i e found = rw (e, found) refl
 
   -- where there is none the PDU comes without one
-  pub none_takes : (role : Role) (tid : ℕ) → name_of s ≡ Of role tid → named_of t (count t) role peer tid ≡ Found.Nothing → receive_step t time peer s ≡ unmatched_step t role peer tid time s (pdu_of s)
+  pub none_takes : (role : Role) (tid : ℕ) → name_of s ≡ Some (role, tid) → named_of t (count t) role peer tid ≡ None → receive_step t time peer s ≡ unmatched_step t role peer tid time s (pdu_of s)
   unfolding receive_step naming_step
   none_takes role tid e found = rw (e, found) refl

@@ -8,17 +8,17 @@ use mathlib.Core.Bool.{Bool, true, false, ◌||◌}
 use mathlib.Core.Logic.{◌⊎◌, inl, inr}
 use lib.ListN.{length}
 use lib.Dec.{ltb, leb, eqb}
+use Rattle.std.specs.Prelude.{Option, Some, None, Result, Ok, Err}
 use Rattle.base_lists.specs.Seq.{pick}
 use Rattle.base_lists.proofs.StoresAndParts.{true_false}
-use Rattle.base_numbers.specs.declared.Malformed.TheVariants.{D3, D4, D7}
+use Rattle.base_numbers.specs.declared.Malformed.{Malformed}
+use Rattle.base_numbers.specs.declared.Malformed.TheVariants.{D7}
 use Rattle.codec_items.specs.Forms.{Short, Long}
 use Rattle.codec_items.specs.Found.{place_from, place_after, unknown_in}
 use Rattle.codec_items.specs.Info.{first_from}
 use Rattle.codec_items.specs.Items.{item_at}
-use Rattle.codec_items.specs.Unknown.{no_unknown, unknown_from}
+use Rattle.codec_items.specs.Unknown.{unknown_from}
 use Rattle.codec_items.specs.declared.Got.{Got}
-use Rattle.codec_items.specs.declared.Got.TheVariants.{One, Cut}
-use Rattle.codec_items.specs.declared.Item.{Item}
 use Rattle.codec_items.specs.declared.Sought.TheVariants.{UnknownItem}
 use Rattle.codec_items.specs.declared.Unknown.{Unknown}
 use Rattle.codec_items.proofs.Forms.{item_forms}
@@ -38,40 +38,35 @@ Fine u = UnknownOk u.identity
 
 -- a place that `unknown_in` looks at, of an item that isn't known
 module _ (s : List ℕ) where
-  small : (at : ℕ) (it : Item) (con : Bool) (next : ℕ) → item_at s at ≡ One it con next → it.identity < 16
-  small at it con next e = go (item_forms s at it con next e)
+  small : (at : ℕ) (got : Got) → item_at s at ≡ Some got → got.item.identity < 16
+  small at got e = go (item_forms s at got e)
     where
-      go : Short s at it con next ⊎ Long s at it con next → it.identity < 16
+      go : Short s at got.item got.con got.next ⊎ Long s at got.item got.con got.next → got.item.identity < 16
       go (inl f) = rw f.item (omega arith)
       go (inr f) = rw f.item (omega arith)
 
-  here : (at : ℕ) (it : Item) (con : Bool) (next : ℕ) → item_at s at ≡ One it con next → leb 6 it.identity ≡ true → Fine (unknown_in s at)
-  unfolding unknown_in
-  here at it con next e h = rw e (by (eqb at 0))
-    where
-      by : (b : Bool) → Fine (pick b no_unknown (record { identity = it.identity; place = at }))
-      by true = none refl
-      by false = some (leb-true 6 it.identity h) (omega (arith, small at it con next e))
+  here : (at : ℕ) (got : Got) → item_at s at ≡ Some got → leb 6 got.item.identity ≡ true → Fine (unknown_in s (Some at))
+  here at got e h = rw e (some (leb-true 6 got.item.identity h) (omega (arith, small at got e)))
 
   walked : (k at : ℕ) → Fine (unknown_in s (place_from UnknownItem k s at))
-  unfolding place_from unknown_in
+  unfolding place_from
   walked zero at = none refl
   walked (suc k) at = go (walked k) (item_at s at) refl
     where
-      go : ((next : ℕ) → Fine (unknown_in s (place_from UnknownItem k s next))) → (g : Got) → item_at s at ≡ g → Fine (unknown_in s (place_after UnknownItem at (place_from UnknownItem k s) g))
-      go ih Cut e = none refl
-      go ih (One it con next) e = by (leb 6 it.identity) refl con
+      go : ((next : ℕ) → Fine (unknown_in s (place_from UnknownItem k s next))) → (g : Option Got) → item_at s at ≡ g → Fine (unknown_in s (place_after UnknownItem at (place_from UnknownItem k s) g))
+      go ih None e = none refl
+      go ih (Some got) e = by (leb 6 got.item.identity) refl got.con
         where
-          by : (b : Bool) → leb 6 it.identity ≡ b → (c : Bool) → Fine (unknown_in s (pick b at (pick c (place_from UnknownItem k s next) 0)))
-          by true h c = here at it con next e h
-          by false h true = ih next
+          by : (b : Bool) → leb 6 got.item.identity ≡ b → (c : Bool) → Fine (unknown_in s (pick b (Some at) (pick c (place_from UnknownItem k s got.next) None)))
+          by true h c = here at got e h
+          by false h true = ih got.next
           by false h false = none refl
 
   after : (h : Head) → Fine (unknown_in s (places_after s h).unknown)
-  unfolding places_after placeBehind unknown_in
+  unfolding places_after placeBehind
   after h = go h.con
     where
-      go : (b : Bool) → Fine (unknown_in s (pick b (place_from UnknownItem 16 s h.end) 0))
+      go : (b : Bool) → Fine (unknown_in s (pick b (place_from UnknownItem 16 s h.end) None))
       go true = walked 16 h.end
       go false = none refl
 
@@ -79,20 +74,19 @@ module _ (s : List ℕ) where
   unfolding brief_of blank_pdu unknown_of unknown_from first_from
   blank k = none refl
 
-  ended : (h : Head) (end : ℕ) → Fine (ended_brief s h (places_after s h) end).unknown
+  ended : (h : Head) (end : Result ℕ Malformed) → Fine (ended_brief s h (places_after s h) end).unknown
   unfolding ended_brief whole_brief
-  ended h end = go (eqb end 0) (eqb end 1) (bytes_left h.kind (length s - end))
+  ended h (Err d) = blank (Wrong d)
+  ended h (Ok end) = go (bytes_left h.kind (length s - end))
     where
-      go : (a b c : Bool) → Fine (pick a (wrong_brief (Wrong D3)) (pick b (wrong_brief (Wrong D4)) (pick c (wrong_brief (Wrong D7)) (whole_brief s h (places_after s h) end)))).unknown
-      go true b c = blank (Wrong D3)
-      go false true c = blank (Wrong D4)
-      go false false true = blank (Wrong D7)
-      go false false false = after h
+      go : (b : Bool) → Fine (pick b (wrong_brief (Wrong D7)) (whole_brief s h (places_after s h) end)).unknown
+      go true = blank (Wrong D7)
+      go false = after h
 
   by_head : 1 ≤ length s → length s ≤ 1500 → (b : Bool) → sound_of (head_of s).kind ≡ b → Fine (unknown_of (pdu_of s))
   unfolding brief_of
-  by_head l m true e = subst (λ (b : Brief). Fine b.unknown) (brief_sound s l m e) (ended (head_of s) (end_after_is s (head_of s)))
-  by_head l m false e = subst (λ (b : Brief). Fine b.unknown) (brief_unsound s l m e) (blank (head_of s).kind)
+  by_head l m true e = subst (λ (b : Brief). Fine b.unknown) (brief_sound s (head_of s) refl l m e) (ended (head_of s) (end_after_is s (head_of s)))
+  by_head l m false e = subst (λ (b : Brief). Fine b.unknown) (brief_unsound s (head_of s) refl l m e) (blank (head_of s).kind)
 
   no_length : (a b : Bool) → eqb (length s) 0 ≡ a → ltb 1500 (length s) ≡ b → a || b ≡ true → Fine (unknown_of (pdu_of s))
   unfolding pdu_of blank_pdu unknown_of unknown_from first_from

@@ -9,9 +9,8 @@ use lib.ListN.{length}
 use lib.Dec.{ltb, eqb}
 use Rattle.base_layout.specs.Layout.{cell_size}
 use Rattle.base_lists.specs.Seq.{pick}
-use Rattle.base_numbers.specs.declared.Verdict.{Verdict}
-use Rattle.base_numbers.specs.declared.Verdict.TheVariants.{Sound, Bad}
-use Rattle.codec_items.specs.declared.Items.{Items}
+use Rattle.std.specs.Prelude.{Ok, Err}
+use Rattle.codec_items.specs.Items.{Verdict, Items}
 use Rattle.codec_pdu.specs.Pdu.{sound_of, bare_of, blank_pdu}
 use Rattle.codec_pdu.specs.declared.Kind.{Kind}
 use Rattle.codec_pdu.specs.declared.Pdu.{Pdu}
@@ -42,8 +41,8 @@ module _ (s : List ℕ) where
   finished_inside h i e = go i.verdict
     where
       go : (v : Verdict) → Inside s (finish_by v s h i)
-      go (Bad d) = blank_inside _
-      go Sound = choose_inside (bare_of h.kind) _ _ (choose_inside (eqb (length s - i.end) 0) (whole h i 0 0) _ (omega arith) (blank_inside _)) rest
+      go (Err d) = blank_inside _
+      go (Ok tt) = choose_inside (bare_of h.kind) _ _ (choose_inside (eqb (length s - i.end) 0) (whole h i 0 0) _ (omega arith) (blank_inside _)) rest
         where
           rest : i.end + (length s - i.end) ≤ length s
           rest = omega (arith, e)

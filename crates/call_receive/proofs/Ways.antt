@@ -6,6 +6,7 @@ use mathlib.Core.List.{List}
 use mathlib.Core.Bool.{Bool, true, false, not}
 use mathlib.Core.Logic.{◌⊎◌, inl, inr}
 use lib.Dec.{eqb}
+use Rattle.std.specs.Prelude.{Option, Some, None, is_some}
 use Rattle.base_layout.specs.Layout.{tid_bound}
 use Rattle.base_lists.specs.Seq.{pick}
 use Rattle.base_lists.proofs.StoresAndParts.{true_false}
@@ -15,8 +16,7 @@ use Rattle.table_record.specs.declared.Role.{Role}
 use Rattle.table_record.specs.declared.Role.TheVariants.{Responder}
 use Rattle.table_layout.specs.Table.{count, record_at}
 use Rattle.table_well_formed.specs.WellFormed.{WellFormed}
-use Rattle.table_finding.specs.Finding.{is_found, named_of, free_of}
-use Rattle.table_finding.specs.declared.Found.{Found}
+use Rattle.table_finding.specs.Finding.{named_of, free_of}
 use Rattle.table_finding.specs.Searched.{Called, NoneOf}
 use Rattle.table_finding.proofs.Searches.{named_found, named_nothing}
 use Rattle.law_places.specs.Places.{LiveAt}
@@ -29,8 +29,6 @@ use Rattle.row_entries.specs.Acts.{opening_act}
 use Rattle.row_choice.specs.Rows.{invoke0_of, invoke12_of, opening_of}
 use Rattle.row_choice.specs.declared.Arrived.{Arrived}
 use Rattle.step_arrivals.specs.Arrivals.{tid_of, name_of, invokes_us, arrived_of}
-use Rattle.step_arrivals.specs.declared.Name.{Name}
-use Rattle.step_arrivals.specs.declared.Name.TheVariants.{Nobody, Of}
 use Rattle.step_arrivals.proofs.Names.{name_below, invoke_names_responder}
 use Rattle.step_opening.specs.Opens.{place_for}
 use Rattle.step_plan.specs.Steps.{idle_step}
@@ -42,7 +40,7 @@ pub record Taken (t : List ℕ) (time peer : ℕ) (s : List ℕ) : Type 0 where
   pub role : Role
   pub tid : ℕ
   pub place : ℕ
-  pub names : name_of s ≡ Of role tid
+  pub names : name_of s ≡ Some (role, tid)
   pub live : LiveAt t place
   pub called : Called role peer tid (record_at t place)
   pub step_is : receive_step t time peer s ≡ taken_step t place time (pdu_of s)
@@ -51,7 +49,7 @@ pub record Taken (t : List ℕ) (time peer : ℕ) (s : List ℕ) : Type 0 where
 pub record Unmatched (t : List ℕ) (time peer : ℕ) (s : List ℕ) : Type 0 where
   pub role : Role
   pub tid : ℕ
-  pub names : name_of s ≡ Of role tid
+  pub names : name_of s ≡ Some (role, tid)
   pub bound : tid ≤ tid_bound
   pub none : NoneOf (Called role peer tid) t (count t)
   pub step_is : receive_step t time peer s ≡ unmatched_step t role peer tid time s (pdu_of s)
@@ -60,8 +58,8 @@ pub record Unmatched (t : List ℕ) (time peer : ℕ) (s : List ℕ) : Type 0 wh
 pub ways : (t : List ℕ) → WellFormed t → (time peer : ℕ) (s : List ℕ) → (receive_step t time peer s ≡ idle_step time) ⊎ (Taken t time peer s ⊎ Unmatched t time peer s)
 ways t w time peer s = by_name (name_of s) refl
   where
-    by_found : (role : Role) (tid : ℕ) → name_of s ≡ Of role tid → (f : Found) → named_of t (count t) role peer tid ≡ f → Taken t time peer s ⊎ Unmatched t time peer s
-    by_found role tid e (Found.At i) q =
+    by_found : (role : Role) (tid : ℕ) → name_of s ≡ Some (role, tid) → (f : Option ℕ) → named_of t (count t) role peer tid ≡ f → Taken t time peer s ⊎ Unmatched t time peer s
+    by_found role tid e (Some i) q =
         inl record {
           role = role;
           tid = tid;
@@ -71,7 +69,7 @@ ways t w time peer s = by_name (name_of s) refl
           called = (named_found t (count t) role peer tid i q).is_so;
           step_is = live_takes t time peer s role tid i e q;
         }
-    by_found role tid e Found.Nothing q =
+    by_found role tid e None q =
         inr record {
           role = role;
           tid = tid;
@@ -81,9 +79,9 @@ ways t w time peer s = by_name (name_of s) refl
           step_is = none_takes t time peer s role tid e q;
         }
 
-    by_name : (n : Name) → name_of s ≡ n → (receive_step t time peer s ≡ idle_step time) ⊎ (Taken t time peer s ⊎ Unmatched t time peer s)
-    by_name Nobody e = inl (nobody_idle t time peer s e)
-    by_name (Of role tid) e = inr (by_found role tid e (named_of t (count t) role peer tid) refl)
+    by_name : (n : Option (Role × ℕ)) → name_of s ≡ n → (receive_step t time peer s ≡ idle_step time) ⊎ (Taken t time peer s ⊎ Unmatched t time peer s)
+    by_name None e = inl (nobody_idle t time peer s e)
+    by_name (Some (role, tid)) e = inr (by_found role tid e (named_of t (count t) role peer tid) refl)
 
 -- an opening that leaves no live record
 abbrev LeavesNone : Opening → Type 0
@@ -117,18 +115,18 @@ module _ (a : Arrived) where
 
 -- an Invoke without a live record opens one where one is free
 pub record Opens (t : List ℕ) (s : List ℕ) : Type 0 where
-  pub invokes : name_of s ≡ Of Responder (tid_of s)
-  pub free : free_of t (count t) ≡ Found.At (place_for (free_of t (count t)))
+  pub invokes : name_of s ≡ Some (Responder, tid_of s)
+  pub free : free_of t (count t) ≡ Some (place_for (free_of t (count t)))
 
 -- what comes without a live record leaves none, or opens one
 pub leaves_or_opens : (t : List ℕ) (peer tid : ℕ) (s : List ℕ) (p : Pdu) → ((opening_act (arrival_opening t peer tid s p)).next ≡ Ends) ⊎ Opens t s
 unfolding arrival_opening arrived_of place_for
 leaves_or_opens t peer tid s p = go (opens_or_ends _)
   where
-    at_place : (f : Found) → not (is_found f) ≡ false → f ≡ Found.At (place_for f)
-    at_place (Found.At i) h = refl
-    at_place Found.Nothing h = true_false h
+    at_place : (f : Option ℕ) → not (is_some f) ≡ false → f ≡ Some (place_for f)
+    at_place (Some i) h = refl
+    at_place None h = true_false h
 
-    go : ((opening_act (arrival_opening t peer tid s p)).next ≡ Ends) ⊎ ((invokes_us s ≡ true) × (not (is_found (free_of t (count t))) ≡ false)) → ((opening_act (arrival_opening t peer tid s p)).next ≡ Ends) ⊎ Opens t s
+    go : ((opening_act (arrival_opening t peer tid s p)).next ≡ Ends) ⊎ ((invokes_us s ≡ true) × (not (is_some (free_of t (count t))) ≡ false)) → ((opening_act (arrival_opening t peer tid s p)).next ≡ Ends) ⊎ Opens t s
     go (inl h) = inl h
     go (inr h) = inr record { invokes = invoke_names_responder s h.0; free = at_place (free_of t (count t)) h.1 }

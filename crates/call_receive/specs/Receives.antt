@@ -1,5 +1,5 @@
 -- A received PDU (01, "TIDs", "Events"): its refusals, and the step of an accepted one.
-use Rattle.std.specs.Prelude.{ℕ, ◌%◌, List, [], ◌∷◌, ◌++◌, Bool, true, false, not, length, ltb, eqb}
+use Rattle.std.specs.Prelude.{ℕ, ◌%◌, List, [], ◌∷◌, ◌++◌, Bool, true, false, not, length, ltb, eqb, None, Option, Some, is_some}
 use Rattle.base_layout.specs.Layout.{peers, cell_size, datagram_bound}
 use Rattle.base_lists.specs.Seq.{pick}
 use Rattle.base_numbers.specs.declared.Refusal.TheVariants.{WrongLength}
@@ -9,30 +9,25 @@ use Rattle.codec_pdu.specs.declared.Pdu.{Pdu}
 use Rattle.codec_reading.specs.Read.{pdu_of}
 use Rattle.table_record.specs.declared.Role.{Role}
 use Rattle.table_layout.specs.Table.{count, cached_of}
-use Rattle.table_finding.specs.Finding.{is_found, named_of, free_of}
-use Rattle.table_finding.specs.declared.Found.{Found}
+use Rattle.table_finding.specs.Finding.{named_of, free_of}
 use Rattle.table_tids.specs.Tids.{test_of}
 use Rattle.table_tids.specs.declared.Test.{Test as TidTest}
 use Rattle.table_tids.specs.declared.Test.TheVariants.{Valid, Verified}
 use Rattle.row_events.specs.declared.Opening.{Opening}
 use Rattle.row_choice.specs.Rows.{opening_of}
 use Rattle.step_arrivals.specs.Arrivals.{name_of, event_of, cause_of, wanted_of, arrived_of}
-use Rattle.step_arrivals.specs.declared.Name.{Name}
-use Rattle.step_arrivals.specs.declared.Name.TheVariants.{Nobody, Of}
 use Rattle.row_turns.specs.declared.Given.{Given}
-use Rattle.step_commit.specs.declared.GenTidChange.TheVariants.{Unchanged}
 use Rattle.call_refusal.specs.Judging.{Test, test, lowest, plan_by, peer_tests}
-use Rattle.step_plan.specs.Steps.{no_part, idle_step}
+use Rattle.step_plan.specs.Steps.{no_part, idle_step, Plan}
 use Rattle.step_plan.specs.declared.Part.{Part}
 use Rattle.step_plan.specs.declared.Holder.{Holder}
 use Rattle.step_plan.specs.declared.Call.{Call}
 use Rattle.step_plan.specs.declared.Tells.TheVariants.{Nothing}
 use Rattle.step_plan.specs.declared.Step.{Step}
-use Rattle.step_plan.specs.declared.Plan.{Plan}
 use Rattle.step_opening.specs.Opens.{place_for, opening_step}
 use Rattle.step_live.specs.Turning.{row_at, live_step}
 use Rattle.step_carrying.specs.declared.Coming.TheVariants as Coming
-use Rattle.call_receive.specs.declared.Arrives.{Arrives}
+use Rattle.call_receive.specs.declared.Arrival.{Arrival}
 
 -- 11: "datagram or PDU length outside 1 to 1,500"
 abbrev pub wrong_length : ℕ → Bool
@@ -98,11 +93,11 @@ unfoldable pub opened_call : Pdu → Call
 opened_call p = record { message = kept_part p; info = no_part; user = user_part p; tells = Nothing }
 
 unfoldable pub opened_step : List ℕ → Opening → Holder → ℕ → Pdu → Step
-opened_step t opening h time p = opening_step t opening h (opened_given time p) Unchanged (opened_call p)
+opened_step t opening h time p = opening_step t opening h (opened_given time p) None (opened_call p)
 
 -- the row of a PDU without a live record; one of its tests is "no free record"
 unfoldable pub arrival_opening : List ℕ → ℕ → ℕ → List ℕ → Pdu → Opening
-arrival_opening t peer tid s p = opening_of (arrived_of s p (not (is_found (free_of t (count t)))) (is_valid (test_of (cached_of t peer) tid)))
+arrival_opening t peer tid s p = opening_of (arrived_of s p (not (is_some (free_of t (count t)))) (is_valid (test_of (cached_of t peer) tid)))
 
 unfoldable pub unmatched_step : List ℕ → Role → ℕ → ℕ → ℕ → List ℕ → Pdu → Step
 unmatched_step t role peer tid time s p =
@@ -111,17 +106,17 @@ unmatched_step t role peer tid time s p =
 -- ---- the whole call
 
 -- the live record that is named, or none
-abbrev pub step_by : Found → List ℕ → Role → ℕ → ℕ → ℕ → List ℕ → Step
-step_by (Found.At i) t role peer tid time s = taken_step t i time (pdu_of s)
-step_by Found.Nothing t role peer tid time s = unmatched_step t role peer tid time s (pdu_of s)
+abbrev pub step_by : Option ℕ → List ℕ → Role → ℕ → ℕ → ℕ → List ℕ → Step
+step_by (Some i) t role peer tid time s = taken_step t i time (pdu_of s)
+step_by None t role peer tid time s = unmatched_step t role peer tid time s (pdu_of s)
 
 unfoldable pub naming_step : List ℕ → Role → ℕ → ℕ → ℕ → List ℕ → Step
 naming_step t role peer tid time s = step_by (named_of t (count t) role peer tid) t role peer tid time s
 
 -- "a shorter one names none"; what is ignored before any test names none either
-abbrev pub step_of_name : Name → List ℕ → ℕ → ℕ → List ℕ → Step
-step_of_name Nobody t time peer s = idle_step time
-step_of_name (Of role tid) t time peer s = naming_step t role peer tid time s
+abbrev pub step_of_name : Option (Role × ℕ) → List ℕ → ℕ → ℕ → List ℕ → Step
+step_of_name None t time peer s = idle_step time
+step_of_name (Some (role, tid)) t time peer s = naming_step t role peer tid time s
 
 unfoldable pub receive_step : List ℕ → ℕ → ℕ → List ℕ → Step
 receive_step t time peer s = step_of_name (name_of s) t time peer s
@@ -132,26 +127,26 @@ receive_plan t store output time peer s = plan_by (lowest (receive_tests t store
 -- ---- what the code takes apart: the turn that a PDU brings
 
 -- to a live record, or as an opening
-unfoldable pub taken_turn : List ℕ → ℕ → ℕ → Pdu → (identity : ℕ) → Arrives
-taken_turn t place time p identity = Arrives.Turns (Coming.Live place (row_at t place (event_of p.kind))) (taken_with time p identity) (taken_call p)
+unfoldable pub taken_turn : List ℕ → ℕ → ℕ → Pdu → (identity : ℕ) → Arrival
+taken_turn t place time p identity = record { coming = Coming.Live place (row_at t place (event_of p.kind)); given = taken_with time p identity; call = taken_call p }
 
-unfoldable pub opened_turn : Opening → Holder → ℕ → Pdu → (identity : ℕ) → Arrives
-opened_turn opening h time p identity = Arrives.Turns (Coming.Opens opening h Unchanged) (opened_with time p identity) (opened_call p)
+unfoldable pub opened_turn : Opening → Holder → ℕ → Pdu → (identity : ℕ) → Arrival
+opened_turn opening h time p identity = record { coming = Coming.Opens opening h None; given = opened_with time p identity; call = opened_call p }
 
-unfoldable pub unmatched_turn : List ℕ → Role → ℕ → ℕ → ℕ → List ℕ → Pdu → (identity : ℕ) → Arrives
+unfoldable pub unmatched_turn : List ℕ → Role → ℕ → ℕ → ℕ → List ℕ → Pdu → (identity : ℕ) → Arrival
 unmatched_turn t role peer tid time s p identity =
     opened_turn (arrival_opening t peer tid s p) (arriver_of (place_for (free_of t (count t))) role peer tid p.kind) time p identity
 
-abbrev pub turn_by : Found → List ℕ → Role → ℕ → ℕ → ℕ → List ℕ → Arrives
-turn_by (Found.At i) t role peer tid time s = taken_turn t i time (pdu_of s) (unknown_of (pdu_of s)).identity
-turn_by Found.Nothing t role peer tid time s = unmatched_turn t role peer tid time s (pdu_of s) (unknown_of (pdu_of s)).identity
+abbrev pub turn_by : Option ℕ → List ℕ → Role → ℕ → ℕ → ℕ → List ℕ → Arrival
+turn_by (Some i) t role peer tid time s = taken_turn t i time (pdu_of s) (unknown_of (pdu_of s)).identity
+turn_by None t role peer tid time s = unmatched_turn t role peer tid time s (pdu_of s) (unknown_of (pdu_of s)).identity
 
-unfoldable pub naming_turn : List ℕ → Role → ℕ → ℕ → ℕ → List ℕ → Arrives
+unfoldable pub naming_turn : List ℕ → Role → ℕ → ℕ → ℕ → List ℕ → Arrival
 naming_turn t role peer tid time s = turn_by (named_of t (count t) role peer tid) t role peer tid time s
 
-abbrev pub turn_of_name : Name → List ℕ → ℕ → ℕ → List ℕ → Arrives
-turn_of_name Nobody t time peer s = Arrives.Nobody
-turn_of_name (Of role tid) t time peer s = naming_turn t role peer tid time s
+abbrev pub turn_of_name : Option (Role × ℕ) → List ℕ → ℕ → ℕ → List ℕ → Option Arrival
+turn_of_name None t time peer s = None
+turn_of_name (Some (role, tid)) t time peer s = Some (naming_turn t role peer tid time s)
 
-unfoldable pub receive_turn : List ℕ → ℕ → ℕ → List ℕ → Arrives
+unfoldable pub receive_turn : List ℕ → ℕ → ℕ → List ℕ → Option Arrival
 receive_turn t time peer s = turn_of_name (name_of s) t time peer s

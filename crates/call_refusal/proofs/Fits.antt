@@ -7,6 +7,8 @@ use mathlib.Core.List.{List, [], ◌∷◌}
 use mathlib.Core.Bool.{Bool, true, false, not}
 use lib.Dec.{ltb}
 use lib.ListN.{length}
+use Rattle.std.specs.Prelude.{Result, Ok, Err}
+use Rattle.base_numbers.specs.declared.Refusal.{Refusal}
 use Rattle.base_layout.specs.Layout.{header_size, record_size, base, time_bound}
 use Rattle.base_lists.specs.Seq.{pick}
 use Rattle.base_lists.proofs.StoresAndParts.{true_false}
@@ -14,8 +16,6 @@ use Rattle.table_layout.specs.Table.{count, clock_of}
 use Rattle.table_well_formed.specs.WellFormed.{WellFormed, Fitting, fitting}
 use Rattle.table_well_formed.proofs.TableTest.{to_fitting}
 use Rattle.call_refusal.specs.Judging.{Test, lowest, late_of}
-use Rattle.call_refusal.specs.declared.Judged.{Judged}
-use Rattle.call_refusal.specs.declared.Judged.TheVariants.{Accept, Refuse}
 
 -- none of the tests holds
 abbrev pub NoneHolds : List Test → Type 0
@@ -23,11 +23,11 @@ NoneHolds [] = Unit
 NoneHolds (t ∷ ts) = (t.holds ≡ false) × NoneHolds ts
 
 -- whether a call is accepted
-abbrev pub is_accept : Judged → Bool
-is_accept Accept = true
-is_accept (Refuse r) = false
+abbrev pub is_accept : Result Unit Refusal → Bool
+is_accept (Ok a) = true
+is_accept (Err r) = false
 
-accepted_first : (t : Test) (rest : Judged) (b : Bool) → t.holds ≡ b → is_accept (pick t.holds (Refuse t.number) rest) ≡ true → (t.holds ≡ false) × (is_accept rest ≡ true)
+accepted_first : (t : Test) (rest : Result Unit Refusal) (b : Bool) → t.holds ≡ b → is_accept (pick t.holds (Err t.number) rest) ≡ true → (t.holds ≡ false) × (is_accept rest ≡ true)
 accepted_first t rest true e h = true_false (sym (rw e at h))
 accepted_first t rest false e h = (e, rw e at h)
 
@@ -37,7 +37,7 @@ none_holds [] h = tt
 none_holds (t ∷ ts) h = ((accepted_first t (lowest ts) t.holds refl h).0, none_holds ts (accepted_first t (lowest ts) t.holds refl h).1)
 
 -- an accepted call met none of its tests
-pub accepted : (ts : List Test) → lowest ts ≡ Accept → NoneHolds ts
+pub accepted : (ts : List Test) → lowest ts ≡ Ok tt → NoneHolds ts
 accepted ts e = none_holds ts (rw e refl)
 
 -- number 1 isn't given

@@ -1,5 +1,5 @@
 -- Refusals (01, "Numbers given back"): "The lowest applicable number is given, and none without its condition".
-use Rattle.std.specs.Prelude.{ℕ, ◌<◌, ◌≡◌, List, [], ◌∷◌, ◌++◌, Bool, true, false, not, ◌⊎◌, ltb}
+use Rattle.std.specs.Prelude.{ℕ, ◌<◌, ◌≡◌, List, [], ◌∷◌, ◌++◌, Bool, true, false, not, ◌⊎◌, ltb, Result, Ok, Err}
 use Rattle.base_layout.specs.Layout.{time_bound, peer_bound}
 use Rattle.base_lists.specs.Seq.{pick}
 use Rattle.base_numbers.specs.declared.Refusal.{Refusal}
@@ -7,12 +7,7 @@ use Rattle.base_numbers.specs.declared.Refusal.TheVariants.{WrongSize, WrongTime
 use Rattle.table_layout.specs.Table.{clock_of}
 use Rattle.table_well_formed.specs.WellFormed.{Fitting, fitting}
 use Rattle.step_plan.specs.declared.Step.{Step}
-use Rattle.step_plan.specs.declared.Plan.{Plan}
-use Rattle.step_plan.specs.declared.Plan.TheVariants as Plan
-use Rattle.call_refusal.specs.declared.Judged.{Judged}
-use Rattle.call_refusal.specs.declared.Judged.TheVariants.{Accept, Refuse}
-use Rattle.call_refusal.specs.declared.Placed.{Placed}
-use Rattle.call_refusal.specs.declared.Placed.TheVariants as Placed
+use Rattle.step_plan.specs.Steps.{Plan}
 
 -- a refusal and the test of its condition
 pub record Test : Type 0 where
@@ -23,19 +18,19 @@ abbrev pub test : Refusal → Bool → Test
 test number holds = record { number = number; holds = holds }
 
 -- "The lowest applicable number is given": the first test that holds; the tests stand in the order of their numbers
-unfoldable pub lowest : List Test → Judged
-lowest [] = Accept
-lowest (t ∷ ts) = pick t.holds (Refuse t.number) (lowest ts)
+unfoldable pub lowest : List Test → Result Unit Refusal
+lowest [] = Ok tt
+lowest (t ∷ ts) = pick t.holds (Err t.number) (lowest ts)
 
 -- the plan that a judgement allows
-abbrev pub plan_by : Judged → Step → Plan
-plan_by Accept step = Plan.Go step
-plan_by (Refuse r) step = Plan.Refuse r
+abbrev pub plan_by : Result Unit Refusal → Step → Plan
+plan_by (Ok a) step = Ok step
+plan_by (Err r) step = Err r
 
 -- the place that a judgement allows
-abbrev pub placed_by : Judged → ℕ → Placed
-placed_by Accept place = Placed.At place
-placed_by (Refuse r) place = Placed.Refuse r
+abbrev pub placed_by : Result Unit Refusal → ℕ → Result ℕ Refusal
+placed_by (Ok a) place = Ok place
+placed_by (Err r) place = Err r
 
 -- a refusal and its condition, as document 01's table says it
 pub record Condition : Type 1 where
@@ -46,9 +41,9 @@ abbrev pub condition : Refusal → Type 0 → Condition
 condition number says = record { number = number; says = says }
 
 -- "Given exactly when": the first condition that holds gives its number, and where none holds the call is accepted
-unfoldable pub Lowest : List Condition → Judged → Type 0
-Lowest [] j = j ≡ Accept
-Lowest (c ∷ cs) j = (c.says × (j ≡ Refuse c.number)) ⊎ ((c.says → ⊥) × Lowest cs j)
+unfoldable pub Lowest : List Condition → Result Unit Refusal → Type 0
+Lowest [] j = j ≡ Ok tt
+Lowest (c ∷ cs) j = (c.says × (j ≡ Err c.number)) ⊎ ((c.says → ⊥) × Lowest cs j)
 
 -- 1: "the table, store or output has the wrong size, or the table is not well formed": the test, and the condition
 abbrev pub unfit : List ℕ → ℕ → ℕ → Test

@@ -7,6 +7,7 @@ use mathlib.Core.Bool.{Bool, true, false}
 use mathlib.Core.Logic.{◌⊎◌, inl, inr}
 use lib.Dec.{ltb}
 use borrow.Author.Tests.{ltb-false}
+use Rattle.std.specs.Prelude.{Ok, Option, Some, None}
 use Rattle.base_layout.specs.Layout.{time_bound, peers, records_bound, cell_size}
 use Rattle.base_lists.proofs.StoresAndParts.{true_false}
 use Rattle.table_record.specs.Record.{role_of}
@@ -18,17 +19,12 @@ use Rattle.table_record_ok.specs.OneRecord.{Live}
 use Rattle.table_names_ok.specs.Names.{SameName}
 use Rattle.table_well_formed.specs.WellFormed.{WellFormed}
 use Rattle.table_finding.specs.Finding.{free_of}
-use Rattle.table_finding.specs.declared.Found.{Found}
-use Rattle.table_finding.specs.declared.Found.TheVariants.{At, Nothing}
 use Rattle.table_finding.proofs.Searches.{free_found}
 use Rattle.call_refusal.specs.Judging.{Test, lowest}
-use Rattle.call_refusal.specs.declared.Judged.TheVariants.{Accept}
-use Rattle.call_refusal.specs.declared.Placed.TheVariants as Placed
 use Rattle.call_refusal.proofs.Fits.{NoneHolds, accepted}
 use Rattle.call_refusal.proofs.Placing.{place_at}
 use Rattle.call_refusal.proofs.Going.{goes, Entered, entered}
 use Rattle.step_plan.specs.declared.Step.{Step}
-use Rattle.step_plan.specs.declared.Plan.TheVariants as Plan
 use Rattle.step_opening.specs.Opens.{place_for}
 use Rattle.law_places.proofs.Places.{place_small, free_place_holds}
 use Rattle.call_request.specs.Requests.{UsesGenTid, entry_tests, full_tests, request_tests, none_free, request_step, request_plan, request_place}
@@ -56,10 +52,10 @@ pub record Accepted (t : List ℕ) (store output : ℕ) (q : Request) (step : St
   pub place_free : (q.class ≡ 0) ⊎ ((record_at t (place_of t)).state ≡ Free)
 
 -- number 7 isn't given
-free_there : (t : List ℕ) (class : ℕ) (f : Found) → free_of t (count t) ≡ f → none_free f class ≡ false → (class ≡ 0) ⊎ ((record_at t (place_for f)).state ≡ Free)
+free_there : (t : List ℕ) (class : ℕ) (f : Option ℕ) → free_of t (count t) ≡ f → none_free f class ≡ false → (class ≡ 0) ⊎ ((record_at t (place_for f)).state ≡ Free)
 unfolding none_free place_for
-free_there t class (At i) e h = inr (free_found t (count t) i e).is_so
-free_there t class Nothing e h = go (ltb 0 class) refl
+free_there t class (Some i) e h = inr (free_found t (count t) i e).is_so
+free_there t class None e h = go (ltb 0 class) refl
   where
     go : (b : Bool) → ltb 0 class ≡ b → (class ≡ 0) ⊎ ((record_at t 0).state ≡ Free)
     go true r = true_false (rw r at h)
@@ -67,7 +63,7 @@ free_there t class Nothing e h = go (ltb 0 class) refl
 
 module _ (t : List ℕ) (store output : ℕ) (q : Request) where
   -- whatever is judged after the numbers 1 to 6
-  admitted : (later : List Test) → lowest (entry_tests t store output q ++ later) ≡ Accept → Admitted t store output q
+  admitted : (later : List Test) → lowest (entry_tests t store output q ++ later) ≡ Ok tt → Admitted t store output q
   admitted later e =
       let none : NoneHolds (entry_tests t store output q ++ later) = accepted (entry_tests t store output q ++ later) e in
       record {
@@ -78,10 +74,10 @@ module _ (t : List ℕ) (store output : ℕ) (q : Request) where
         tid_unused = λ i u. (tells_in_use t).2 none.1.1.1.1.1.0 (i, u);
       }
 
-  pub entry_admits : lowest (entry_tests t store output q) ≡ Accept → Admitted t store output q
+  pub entry_admits : lowest (entry_tests t store output q) ≡ Ok tt → Admitted t store output q
   entry_admits = admitted []
 
-  pub request_accepted : (step : Step) → request_plan t store output q ≡ Plan.Go step → Accepted t store output q step
+  pub request_accepted : (step : Step) → request_plan t store output q ≡ Ok step → Accepted t store output q step
   unfolding request_plan
   request_accepted step e =
       let g = goes (request_tests t store output q) (request_step t (place_of t) q) step e in
@@ -111,7 +107,7 @@ module _ (t : List ℕ) (store output : ℕ) (q : Request) where
         a.tid_unused j (record { inside = inside; live = live; initiator = sym same.role ∙ role; tid = sym same.tid ∙ tid })
 
   -- the place of an accepted request, its time and its data are in range
-  pub ready_at : (place : ℕ) → Placed.At place ≡ request_place t store output q → WellFormed t × ((place < records_bound) × ((q.time ≤ time_bound) × (q.len ≤ cell_size)))
+  pub ready_at : (place : ℕ) → Ok place ≡ request_place t store output q → WellFormed t × ((place < records_bound) × ((q.time ≤ time_bound) × (q.len ≤ cell_size)))
   unfolding request_place
   ready_at place e =
       let a = (request_accepted (request_step t place q) (plan_goes t store output q place e)).admits in

@@ -1,5 +1,6 @@
 -- A request (01, "Events", "Initiator"): its refusals, and the step of an accepted one.
-use Rattle.std.specs.Prelude.{ℕ, ◌%◌, ◌<◌, ◌≡◌, List, [], ◌∷◌, ◌++◌, Bool, false, not, ltb}
+use Rattle.std.specs.Prelude.{ℕ, ◌%◌, ◌<◌, ◌≡◌, List, [], ◌∷◌, ◌++◌, Bool, false, not, ltb, Option, Some, Result, is_some}
+use Rattle.base_numbers.specs.declared.Refusal.{Refusal}
 use Rattle.base_layout.specs.Layout.{peers, cell_size}
 use Rattle.base_lists.specs.Seq.{pick}
 use Rattle.base_numbers.specs.declared.Refusal.TheVariants.{TooLong, WrongClass, TidInUse, TableFull}
@@ -7,21 +8,17 @@ use Rattle.table_record.specs.Record.{role_of}
 use Rattle.table_record.specs.declared.Role.TheVariants.{Initiator}
 use Rattle.table_layout.specs.Table.{count, gen_tid_of, record_at, tidnew_due_of}
 use Rattle.table_record_ok.specs.OneRecord.{Live}
-use Rattle.table_finding.specs.Finding.{is_found, free_of, tid_in_use}
-use Rattle.table_finding.specs.declared.Found.{Found}
+use Rattle.table_finding.specs.Finding.{free_of, tid_in_use}
 use Rattle.row_choice.specs.Rows.{requested_of}
 use Rattle.table_tids.specs.Tids.{next_tid, carries_tidnew, due_after}
 use Rattle.row_turns.specs.declared.Given.{Given}
-use Rattle.step_commit.specs.declared.GenTidChange.{GenTidChange}
-use Rattle.step_commit.specs.declared.GenTidChange.TheVariants.{Set}
+use Rattle.step_commit.specs.declared.GenTid.{GenTid}
 use Rattle.call_refusal.specs.Judging.{Test, test, lowest, plan_by, placed_by, peer_tests}
-use Rattle.call_refusal.specs.declared.Placed.{Placed}
-use Rattle.step_plan.specs.Steps.{no_part}
+use Rattle.step_plan.specs.Steps.{no_part, Plan}
 use Rattle.step_plan.specs.declared.Holder.{Holder}
 use Rattle.step_plan.specs.declared.Call.{Call}
 use Rattle.step_plan.specs.declared.Tells.TheVariants.{Tid}
 use Rattle.step_plan.specs.declared.Step.{Step}
-use Rattle.step_plan.specs.declared.Plan.{Plan}
 use Rattle.step_opening.specs.Opens.{place_for, opening_step}
 use Rattle.step_carrying.specs.declared.Coming.{Coming}
 use Rattle.step_carrying.specs.declared.Coming.TheVariants.{Opens}
@@ -49,10 +46,10 @@ abbrev pub entry_tests : List ℕ → ℕ → ℕ → Request → List Test
 entry_tests t store output q = peer_tests t store output q.time q.peer ++ own_tests t q
 
 -- number 7, of the lowest free record
-unfoldable pub none_free : Found → ℕ → Bool
-none_free free class = pick (ltb 0 class) (not (is_found free)) false
+unfoldable pub none_free : Option ℕ → ℕ → Bool
+none_free free class = pick (ltb 0 class) (not (is_some free)) false
 
-abbrev pub full_tests : Found → Request → List Test
+abbrev pub full_tests : Option ℕ → Request → List Test
 full_tests free q = test TableFull (none_free free q.class) ∷ []
 
 -- numbers 1 to 7
@@ -75,8 +72,8 @@ requester t place q = record {
 }
 
 -- 01: "GenTID counts modulo 32,768, also for class 0"; 02, L2: and whether TIDnew is then due
-unfoldable pub counted_by : List ℕ → Request → GenTidChange
-counted_by t q = Set (next_tid (gen_tid_of t)) (due_after (q.class % 256) (tidnew_due_of t) (next_tid (gen_tid_of t)))
+unfoldable pub counted_by : List ℕ → Request → Option GenTid
+counted_by t q = Some (record { tid = next_tid (gen_tid_of t); tidnew_due = due_after (q.class % 256) (tidnew_due_of t) (next_tid (gen_tid_of t)) })
 
 -- a request brings its time and the length of its data
 unfoldable pub request_given : Request → Given
@@ -99,10 +96,10 @@ request_plan t store output q =
 -- ---- what the code takes apart: the place of its record, and the opening
 
 -- with the lowest free record found
-unfoldable pub free_place : Found → Request → Placed
+unfoldable pub free_place : Option ℕ → Request → Result ℕ Refusal
 free_place free q = placed_by (lowest (full_tests free q)) (place_for free)
 
-unfoldable pub request_place : List ℕ → ℕ → ℕ → Request → Placed
+unfoldable pub request_place : List ℕ → ℕ → ℕ → Request → Result ℕ Refusal
 request_place t store output q = placed_by (lowest (request_tests t store output q)) (place_for (free_of t (count t)))
 
 unfoldable pub request_opens : List ℕ → ℕ → Request → Coming

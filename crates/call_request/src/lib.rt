@@ -8,12 +8,10 @@ ghost use Rattle.call_refusal.specs.Judging.{lowest};
 ghost use Rattle.call_request.specs.Requests.{own_tests, none_free, entry_tests, free_place, request_place, request_opens, request_given, request_call};
 
 use base_numbers::Refusal;
-use call_refusal::{Judged, Placed};
 use row_turns::Given;
 use step_carrying::Coming;
-use step_commit::GenTidChange;
+use step_commit::GenTid;
 use step_plan::{Call, Holder, Part, Tells};
-use table_finding::Found;
 use table_record::Role;
 
 // A request: when, to whom, of which class, with or without user acknowledgement, and how many octets of data.
@@ -28,66 +26,57 @@ pub struct Request {
 
 // The lowest of the numbers 4 to 6 that applies, in a well-formed table.
 #[tactic(auto, unfolding(call_refusal::specs::Judging::lowest))]
-fn own_refusal(t: &[u8], q: Request) -> Judged
+fn own_refusal(t: &[u8], q: Request) -> Result<(), Refusal>
     requires { WellFormed t.now }
     ensures { result ≡ lowest (own_tests t.now q) }
 {
     if base_layout::CELL_SIZE < q.len {
-        return Judged::Refuse(Refusal::TooLong);
+        return Err(Refusal::TooLong);
     }
     if 2 < q.class {
-        return Judged::Refuse(Refusal::WrongClass);
+        return Err(Refusal::WrongClass);
     }
     let tid = table_layout::gen_tid_of(t);
-    if table_finding::tid_in_use(t, table_layout::records(t), tid as u64) {
-        return Judged::Refuse(Refusal::TidInUse);
+    if table_finding::tid_in_use(t, table_layout::records(t), u64::from(tid)) {
+        return Err(Refusal::TidInUse);
     }
-    Judged::Accept
+    Ok(())
 }
 
 // The lowest of the numbers 1 to 6 that applies.
 #[tactic(auto, using(call_refusal::proofs::Going::entered))]
-fn request_refusal(t: &[u8], store: usize, output: usize, q: Request) -> Judged
+fn request_refusal(t: &[u8], store: usize, output: usize, q: Request) -> Result<(), Refusal>
     ensures { result ≡ lowest (entry_tests t.now store output q) }
 {
-    match call_refusal::peer_entry(t, store, output, q.time, q.peer) {
-        Judged::Refuse(r) => Judged::Refuse(r),
-        Judged::Accept => own_refusal(t, q),
-    }
+    call_refusal::peer_entry(t, store, output, q.time, q.peer)?;
+    own_refusal(t, q)
 }
 
 // Number 7: a record is wanted and none is free.
 #[tactic(auto, unfolding(crate::specs::Requests::none_free))]
-fn none_free(free: Found, class: u64) -> bool
+fn none_free(free: Option<usize>, class: u64) -> bool
     ensures { result ≡ none_free free class }
 {
-    if 0 < class {
-        !table_finding::is_found(free)
-    } else {
-        false
-    }
+    0 < class && free.is_none()
 }
 
 // With the lowest free record found: number 7, or its place.
 #[tactic(auto, unfolding(crate::specs::Requests::free_place, call_refusal::specs::Judging::lowest))]
-fn with_place(free: Found, q: Request) -> Placed
+fn with_place(free: Option<usize>, q: Request) -> Result<usize, Refusal>
     ensures { result ≡ free_place free q }
 {
     if none_free(free, q.class) {
-        return Placed::Refuse(Refusal::TableFull);
+        return Err(Refusal::TableFull);
     }
-    let place = step_opening::place_for(free);
-    Placed::At(place)
+    Ok(step_opening::place_for(free))
 }
 
 // A request over a store and an output of these lengths: a number, or the place of its record.
-pub fn request_place(t: &[u8], store: usize, output: usize, q: Request) -> Placed
+pub fn request_place(t: &[u8], store: usize, output: usize, q: Request) -> Result<usize, Refusal>
     ensures { result ≡ request_place t.now store output q }
 {
-    match request_refusal(t, store, output, q) {
-        Judged::Refuse(r) => Placed::Refuse(r),
-        Judged::Accept => with_place(table_finding::free(t, table_layout::records(t)), q),
-    }
+    request_refusal(t, store, output, q)?;
+    with_place(table_finding::free(t, table_layout::records(t)), q)
 }
 
 // The opening of an accepted request at this place: an initiator's, under GenTID, which is counted.
@@ -99,23 +88,25 @@ pub fn request_opens(t: &[u8], place: usize, q: Request) -> Coming
     let tid = table_layout::gen_tid_of(t);
     let class = (q.class % 256) as u8;
     let due = table_layout::tidnew_due(t);
-    let tidnew = table_tids::carries_tidnew(class, due);
     let h = Holder {
-        place: place,
+        place,
         role: Role::Initiator,
         peer: (q.peer % 256) as u8,
-        tid: tid,
-        class: class,
+        tid,
+        class,
         up: q.user_ack,
-        tidnew: tidnew,
+        tidnew: table_tids::carries_tidnew(class, due),
         len: 0,
     };
     let next = table_tids::next_tid(tid);
-    let opening = row_choice::requested(class);
-    let still = table_tids::due_after(class, due, next);
-    Coming::Opens(opening, h, GenTidChange::Set(next, still))
+    let counted = GenTid {
+        tid: next,
+        tidnew_due: table_tids::due_after(class, due, next),
+    };
+    Coming::Opens(row_choice::requested(class), h, Some(counted))
 }
 
+#[tactic(auto, unfolding(crate::specs::Requests::request_given))]
 pub fn request_given(q: Request) -> Given
     requires { q.len ≤ cell_size }
     ensures { result ≡ request_given q }
@@ -130,6 +121,7 @@ pub fn request_given(q: Request) -> Given
     }
 }
 
+#[tactic(auto, unfolding(crate::specs::Requests::request_call))]
 pub fn request_call(q: Request) -> Call
     ensures { result ≡ request_call q }
 {

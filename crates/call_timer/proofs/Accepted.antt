@@ -2,8 +2,8 @@
 use Prim.Native.Nat.{ℕ}
 use mathlib.Core.Path.{◌≡◌}
 use mathlib.Core.List.{List, []}
+use Rattle.std.specs.Prelude.{Ok}
 use Rattle.step_plan.specs.declared.Step.{Step}
-use Rattle.step_plan.specs.declared.Plan.TheVariants as Plan
 use Rattle.call_refusal.proofs.Going.{goes, Entered, entered}
 use Rattle.call_timer.specs.Timers.{timer_tests, timer_step, timer_plan}
 
@@ -12,7 +12,7 @@ pub record Accepted (t : List ℕ) (store output time : ℕ) (step : Step) : Typ
   pub step_is : step ≡ timer_step t time
   pub enters : Entered t store output time
 
-pub timer_accepted : (t : List ℕ) (store output time : ℕ) (step : Step) → timer_plan t store output time ≡ Plan.Go step → Accepted t store output time step
+pub timer_accepted : (t : List ℕ) (store output time : ℕ) (step : Step) → timer_plan t store output time ≡ Ok step → Accepted t store output time step
 unfolding timer_plan
 timer_accepted t store output time step e =
     let g = goes (timer_tests t store output time) (timer_step t time) step e in

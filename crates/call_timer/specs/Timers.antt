@@ -1,16 +1,14 @@
 -- The timer call (01, "Events"): "fires the due record (deadline not after now) with the earliest deadline, lowest place on ties, or says none is due".
-use Rattle.std.specs.Prelude.{ℕ, List}
+use Rattle.std.specs.Prelude.{ℕ, List, Option, Some, None}
 use Rattle.table_layout.specs.Table.{count}
 use Rattle.table_finding.specs.Finding.{due_of}
-use Rattle.table_finding.specs.declared.Found.{Found}
 use Rattle.row_events.specs.declared.Event.TheVariants as Event
 use Rattle.row_turns.specs.declared.Given.{Given}
 use Rattle.call_refusal.specs.Judging.{Test, lowest, plan_by, first_tests}
-use Rattle.step_plan.specs.Steps.{no_part, idle_step}
+use Rattle.step_plan.specs.Steps.{no_part, idle_step, Plan}
 use Rattle.step_plan.specs.declared.Call.{Call}
 use Rattle.step_plan.specs.declared.Tells.TheVariants as Tells
 use Rattle.step_plan.specs.declared.Step.{Step}
-use Rattle.step_plan.specs.declared.Plan.{Plan}
 use Rattle.step_live.specs.Turning.{row_at, live_step}
 use Rattle.step_carrying.specs.declared.Coming.{Coming}
 use Rattle.step_carrying.specs.declared.Coming.TheVariants.{Live}
@@ -28,9 +26,9 @@ unfoldable pub fired_call : Call
 fired_call = record { message = no_part; info = no_part; user = no_part; tells = Tells.Record }
 
 -- the due record's step; "or says none is due"
-abbrev pub step_by : Found → List ℕ → ℕ → Step
-step_by (Found.At i) t time = live_step t i Event.Timer (fired_given time) fired_call
-step_by Found.Nothing t time = idle_step time
+abbrev pub step_by : Option ℕ → List ℕ → ℕ → Step
+step_by (Some i) t time = live_step t i Event.Timer (fired_given time) fired_call
+step_by None t time = idle_step time
 
 unfoldable pub timer_step : List ℕ → ℕ → Step
 timer_step t time = step_by (due_of t (count t) time) t time

@@ -11,19 +11,20 @@ use step_carrying::Coming;
 use step_plan::{Call, Tells};
 
 // The row that the timer meets in the record at this place.
+#[tactic(auto, unfolding(crate::specs::Timers::fired_row))]
 pub fn fired_row(t: &[u8], place: usize) -> Coming
     requires { header_size + place * record_size + record_size ≤ length t.now }
     ensures { result ≡ fired_row t.now place }
 {
-    let row = step_live::row_at(t, place, Event::Timer);
-    Coming::Live(place, row)
+    Coming::Live(place, step_live::row_at(t, place, Event::Timer))
 }
 
+#[tactic(auto, unfolding(crate::specs::Timers::fired_given))]
 pub fn fired_given(time: u64) -> Given
     ensures { result ≡ fired_given time }
 {
     Given {
-        time: time,
+        time,
         kind: 0,
         reason: 0,
         len: 0,
@@ -32,6 +33,7 @@ pub fn fired_given(time: u64) -> Given
     }
 }
 
+#[tactic(auto, unfolding(crate::specs::Timers::fired_call))]
 pub fn fired_call() -> Call
     ensures { result ≡ fired_call }
 {

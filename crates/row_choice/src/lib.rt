@@ -12,22 +12,8 @@ fn free_row(e: Event) -> Row
     ensures { result ≡ free_row e }
 {
     match e {
-        Event::Invoke => Row::Ignored,
-        Event::InvokeRid => Row::Ignored,
-        Event::ResultCut => Row::Ignored,
-        Event::ResultCutRid => Row::Ignored,
-        Event::Result => Row::Ignored,
-        Event::ResultRid => Row::Ignored,
-        Event::PlainAck => Row::Ignored,
-        Event::TidAck => Row::Ignored,
-        Event::TidAckRid => Row::Ignored,
-        Event::ReceivedAbort => Row::Ignored,
-        Event::Segmented => Row::Ignored,
-        Event::MalformedPdu => Row::Ignored,
-        Event::UserAnswer => Row::NotAllowed,
-        Event::UserResult => Row::NotAllowed,
-        Event::UserAbort => Row::NotAllowed,
-        Event::Timer => Row::Ignored,
+        Event::UserAnswer | Event::UserResult | Event::UserAbort => Row::NotAllowed,
+        _ => Row::Ignored,
     }
 }
 
@@ -53,16 +39,15 @@ pub fn row_of(s: State, e: Event, c: Conditions) -> Row
 }
 
 // The row of a request by its class.
+#[tactic(auto, unfolding(crate::specs::Rows::requested_of))]
 pub fn requested(class: u8) -> Opening
     ensures { result ≡ requested_of class }
 {
-    if class == 0 {
-        return Opening::Requested0;
+    match class {
+        0 => Opening::Requested0,
+        1 => Opening::Requested1,
+        _ => Opening::Requested2,
     }
-    if class == 1 {
-        return Opening::Requested1;
-    }
-    Opening::Requested2
 }
 
 // A PDU without a live record, and what the tests of it say.
@@ -87,28 +72,26 @@ pub struct Arrived {
     pub valid: bool,
 }
 
+#[tactic(auto, unfolding(crate::specs::Rows::invoke0_of))]
 fn invoke0(a: Arrived) -> Opening
     ensures { result ≡ invoke0_of a }
 {
-    if a.wrong_version {
-        return Opening::Ignored;
+    if a.wrong_version || a.ttr_clear || a.too_long {
+        Opening::Ignored
+    } else {
+        Opening::Shown0
     }
-    if a.ttr_clear {
-        return Opening::Ignored;
-    }
-    if a.too_long {
-        return Opening::Ignored;
-    }
-    Opening::Shown0
 }
 
 // The row of class 1, or of class 2.
+#[tactic(auto, unfolding(crate::specs::Rows::by_class))]
 fn by_class(class: u8, one: Opening, two: Opening) -> Opening
     ensures { result ≡ by_class class one two }
 {
     if class == 1 { one } else { two }
 }
 
+#[tactic(auto, unfolding(crate::specs::Rows::invoke12_of))]
 fn invoke12(a: Arrived) -> Opening
     ensures { result ≡ invoke12_of a }
 {
@@ -134,23 +117,21 @@ fn invoke12(a: Arrived) -> Opening
 }
 
 // The row of a PDU without a live record.
+#[tactic(auto, unfolding(crate::specs::Rows::opening_of))]
 pub fn opening_of(a: Arrived) -> Opening
     ensures { result ≡ opening_of a }
 {
     if a.invoke {
         if a.malformed {
-            return Opening::Malformed;
+            Opening::Malformed
+        } else if a.class == 0 {
+            invoke0(a)
+        } else {
+            invoke12(a)
         }
-        if a.class == 0 {
-            return invoke0(a);
-        }
-        return invoke12(a);
+    } else if a.tidve && !a.malformed {
+        Opening::UnknownTidve
+    } else {
+        Opening::Ignored
     }
-    if a.malformed {
-        return Opening::Ignored;
-    }
-    if a.tidve {
-        return Opening::UnknownTidve;
-    }
-    Opening::Ignored
 }

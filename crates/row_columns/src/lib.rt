@@ -1,8 +1,11 @@
 // The right-hand side of a row as data: its columns, and the shapes that the rows have in common.
-#![tactic(auto)]
+#![tactic(auto, unfolding(crate::specs::Columns::act_with, crate::specs::Columns::taken, crate::specs::Columns::acked, crate::specs::Columns::stored, crate::specs::Columns::shown))]
 
 ghost use Rattle.std.specs.Prelude.{◌≡◌};
-ghost use Rattle.row_columns.specs.Columns.{act_with, ended, aborted, aborted_unseen, kept, resent, held_on, holding_on, waiting, taken, acked, stored, sent, verifying, shown};
+ghost use Rattle.row_columns.specs.declared.Cache.TheVariants as Cache;
+ghost use Rattle.row_columns.specs.declared.Count.TheVariants as Count;
+ghost use Rattle.row_columns.specs.declared.Timer.TheVariants as Timer;
+ghost use Rattle.row_columns.specs.Columns.{ended, aborted, aborted_unseen, kept, resent, held_on, holding_on, waiting, taken, acked, stored, sent, verifying, shown};
 
 use table_record::State;
 
@@ -112,35 +115,30 @@ pub struct Act {
     pub item: bool,
 }
 
-fn act_with(
-    next: Next,
-    timer: Timer,
-    count: Count,
-    mark: Mark,
-    send: Send,
-    first: Indication,
-) -> Act
-    ensures { result ≡ act_with next timer count mark send first }
-{
-    Act {
-        next: next,
-        timer: timer,
-        count: count,
-        mark: mark,
-        exit: ExitInfo::Same,
-        send: send,
-        first: first,
-        second: Indication::Nothing,
-        cell: false,
-        cache: Cache::Same,
-        item: false,
-    }
-}
+// A row that changes, sends and shows nothing: what the others differ from.
+const NOTHING: Act = Act {
+    next: Next::Stays,
+    timer: Timer::Runs,
+    count: Count::Same,
+    mark: Mark::Same,
+    exit: ExitInfo::Same,
+    send: Send::Nothing,
+    first: Indication::Nothing,
+    second: Indication::Nothing,
+    cell: false,
+    cache: Cache::Same,
+    item: false,
+};
 
 pub fn ends(send: Send, show: Indication) -> Act
     ensures { result ≡ ended send show }
 {
-    act_with(Next::Ends, Timer::Runs, Count::Same, Mark::Same, send, show)
+    Act {
+        next: Next::Ends,
+        send,
+        first: show,
+        ..NOTHING
+    }
 }
 
 // An Abort of ours is sent and indicated.
@@ -163,68 +161,56 @@ pub fn aborts_unseen(reason: u8) -> Act
 pub fn keeps(send: Send) -> Act
     ensures { result ≡ kept send }
 {
-    act_with(
-        Next::Stays,
-        Timer::Runs,
-        Count::Same,
-        Mark::Same,
-        send,
-        Indication::Nothing,
-    )
+    Act { send, ..NOTHING }
 }
 
 pub fn resends(mark: Mark, send: Send) -> Act
     ensures { result ≡ resent mark send }
 {
-    act_with(
-        Next::Stays,
-        Timer::R,
-        Count::RcrUp,
+    Act {
+        timer: Timer::R,
+        count: Count::RcrUp,
         mark,
         send,
-        Indication::Nothing,
-    )
+        ..NOTHING
+    }
 }
 
 // The initiator takes a hold-on Ack.
 pub fn held_on() -> Act
     ensures { result ≡ held_on }
 {
-    act_with(
-        Next::Stays,
-        Timer::Stop,
-        Count::Same,
-        Mark::HoldOn,
-        Send::Nothing,
-        Indication::Confirm(true),
-    )
+    Act {
+        timer: Timer::Stop,
+        mark: Mark::HoldOn,
+        first: Indication::Confirm(true),
+        ..NOTHING
+    }
 }
 
 // The responder sends one.
 pub fn holds_on() -> Act
     ensures { result ≡ holding_on }
 {
-    act_with(
-        Next::Goes(State::RResultWait),
-        Timer::Stop,
-        Count::Same,
-        Mark::HoldOnSent,
-        Send::HoldOn(false),
-        Indication::Nothing,
-    )
+    Act {
+        next: Next::Goes(State::RResultWait),
+        timer: Timer::Stop,
+        mark: Mark::HoldOnSent,
+        send: Send::HoldOn(false),
+        ..NOTHING
+    }
 }
 
+// The user has the turn.
 pub fn waits(next: Next, count: Count) -> Act
     ensures { result ≡ waiting next count }
 {
-    act_with(
+    Act {
         next,
-        Timer::A,
+        timer: Timer::A,
         count,
-        Mark::Same,
-        Send::Nothing,
-        Indication::Nothing,
-    )
+        ..NOTHING
+    }
 }
 
 // The initiator takes a Result.
@@ -232,17 +218,10 @@ pub fn takes(first: Indication, second: Indication) -> Act
     ensures { result ≡ taken first second }
 {
     Act {
-        next: Next::Goes(State::IResultRespWait),
-        timer: Timer::A,
-        count: Count::AecZero,
-        mark: Mark::Same,
-        exit: ExitInfo::Same,
-        send: Send::Nothing,
-        first: first,
-        second: second,
-        cell: false,
-        cache: Cache::Same,
+        first,
+        second,
         item: true,
+        ..waits(Next::Goes(State::IResultRespWait), Count::AecZero)
     }
 }
 
@@ -253,34 +232,22 @@ pub fn acks(state: State, exit: ExitInfo) -> Act
     Act {
         next: Next::Goes(state),
         timer: Timer::W,
-        count: Count::Same,
-        mark: Mark::Same,
-        exit: exit,
+        exit,
         send: Send::LastAck(false),
-        first: Indication::Nothing,
-        second: Indication::Nothing,
-        cell: false,
-        cache: Cache::Same,
-        item: false,
+        ..NOTHING
     }
 }
 
 // The message is kept in the record's cell.
-fn stores(state: State, timer: Timer, count: Count, send: Send, cache: Cache, item: bool) -> Act
-    ensures { result ≡ stored state timer count send cache item }
+fn stores(state: State, send: Send, item: bool) -> Act
+    ensures { result ≡ stored state Timer.Runs Count.Same send Cache.Same item }
 {
     Act {
         next: Next::Goes(state),
-        timer: timer,
-        count: count,
-        mark: Mark::Same,
-        exit: ExitInfo::Same,
-        send: send,
-        first: Indication::Nothing,
-        second: Indication::Nothing,
+        send,
         cell: true,
-        cache: cache,
-        item: item,
+        item,
+        ..NOTHING
     }
 }
 
@@ -288,21 +255,22 @@ fn stores(state: State, timer: Timer, count: Count, send: Send, cache: Cache, it
 pub fn sends(state: State, send: Send) -> Act
     ensures { result ≡ sent state send }
 {
-    stores(state, Timer::R, Count::RcrZero, send, Cache::Same, false)
+    Act {
+        timer: Timer::R,
+        count: Count::RcrZero,
+        ..stores(state, send, false)
+    }
 }
 
 // An Invoke to be verified.
 pub fn verifies(state: State, cache: Cache) -> Act
     ensures { result ≡ verifying state cache }
 {
-    stores(
-        state,
-        Timer::Stop,
-        Count::Same,
-        Send::Tidve(false),
+    Act {
+        timer: Timer::Stop,
         cache,
-        true,
-    )
+        ..stores(state, Send::Tidve(false), true)
+    }
 }
 
 // The responder's user is shown an Invoke.
@@ -310,16 +278,9 @@ pub fn shows(state: State, verified: bool, cache: Cache) -> Act
     ensures { result ≡ shown state verified cache }
 {
     Act {
-        next: Next::Goes(state),
-        timer: Timer::A,
-        count: Count::AecZero,
-        mark: Mark::Same,
-        exit: ExitInfo::Same,
-        send: Send::Nothing,
         first: Indication::Invoke(verified),
-        second: Indication::Nothing,
-        cell: false,
-        cache: cache,
+        cache,
         item: !verified,
+        ..waits(Next::Goes(state), Count::AecZero)
     }
 }

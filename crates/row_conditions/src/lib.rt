@@ -13,18 +13,9 @@ fn more_of(state: State, rcr: bool, aec: bool) -> bool
     ensures { result ≡ more_of state rcr aec }
 {
     match state {
-        State::Free => false,
-        State::IResultWait1 => rcr,
-        State::IResultWait2 => rcr,
-        State::IResultRespWait => aec,
-        State::IWaitTimeout => false,
-        State::RTidokWait1 => false,
-        State::RTidokWait2 => false,
-        State::RInvokeRespWait1 => aec,
-        State::RInvokeRespWait2 => aec,
-        State::RResultWait => false,
-        State::RResultRespWait => rcr,
-        State::RWaitTimeout => false,
+        State::IResultWait1 | State::IResultWait2 | State::RResultRespWait => rcr,
+        State::IResultRespWait | State::RInvokeRespWait1 | State::RInvokeRespWait2 => aec,
+        _ => false,
     }
 }
 
@@ -33,18 +24,10 @@ fn mark_of(state: State, held: bool, acked: bool, sent: bool) -> bool
     ensures { result ≡ mark_of state held acked sent }
 {
     match state {
-        State::Free => false,
-        State::IResultWait1 => false,
         State::IResultWait2 => held,
-        State::IResultRespWait => acked,
-        State::IWaitTimeout => false,
-        State::RTidokWait1 => false,
-        State::RTidokWait2 => false,
-        State::RInvokeRespWait1 => acked,
-        State::RInvokeRespWait2 => acked,
+        State::IResultRespWait | State::RInvokeRespWait1 | State::RInvokeRespWait2 => acked,
         State::RResultWait => sent,
-        State::RResultRespWait => false,
-        State::RWaitTimeout => false,
+        _ => false,
     }
 }
 
@@ -53,32 +36,21 @@ fn limited_of(state: State, held: bool, sent: bool, limit: bool) -> bool
     ensures { result ≡ limited_of state held sent limit }
 {
     match state {
-        State::Free => false,
-        State::IResultWait1 => false,
-        State::IResultWait2 => { if held { limit } else { false } }
-        State::IResultRespWait => false,
-        State::IWaitTimeout => false,
-        State::RTidokWait1 => limit,
-        State::RTidokWait2 => limit,
-        State::RInvokeRespWait1 => false,
-        State::RInvokeRespWait2 => false,
-        State::RResultWait => { if sent { limit } else { false } }
-        State::RResultRespWait => false,
-        State::RWaitTimeout => false,
+        State::IResultWait2 => held && limit,
+        State::RTidokWait1 | State::RTidokWait2 => limit,
+        State::RResultWait => sent && limit,
+        _ => false,
     }
 }
 
 // The conditions of a record in its state.
+#[tactic(auto, unfolding(crate::specs::Conditions::conditions_of))]
 pub fn conditions_of(s: Settings, r: Record) -> Conditions
     ensures { result ≡ conditions_of s r }
 {
-    let state = r.state;
-    let more = more_of(state, r.rcr.0 < s.rcr_max, r.aec.0 < s.aec_max);
-    let mark = mark_of(state, r.hold_on, r.user_ack, r.hold_on_sent);
-    let limited = limited_of(state, r.hold_on, r.hold_on_sent, 0 < r.limit);
     Conditions {
-        more: more,
-        mark: mark,
-        limited: limited,
+        more: more_of(r.state, r.rcr.0 < s.rcr_max, r.aec.0 < s.aec_max),
+        mark: mark_of(r.state, r.hold_on, r.user_ack, r.hold_on_sent),
+        limited: limited_of(r.state, r.hold_on, r.hold_on_sent, 0 < r.limit),
     }
 }

@@ -1,4 +1,5 @@
 // The rows of the initiator's states: one function a state, one arm an event.
+// Each state lists all sixteen events, as document 01 does: an event that a catch-all arm took would not be missed.
 #![tactic(auto)]
 
 ghost use Rattle.std.specs.Prelude.{◌≡◌};
@@ -65,8 +66,10 @@ pub fn result_wait2(e: Event, c: Conditions) -> Row
         Event::Timer => {
             if c.limited {
                 Row::HeldOnWaitEnds
+            } else if c.more {
+                Row::Resent
             } else {
-                if c.more { Row::Resent } else { Row::GivenUp }
+                Row::GivenUp
             }
         }
     }
@@ -93,14 +96,12 @@ pub fn result_resp_wait(e: Event, c: Conditions) -> Row
         Event::UserResult => Row::NotAllowed,
         Event::UserAbort => Row::UserAborts,
         Event::Timer => {
-            if c.mark {
-                if c.more {
-                    Row::UserAwaited
-                } else {
-                    Row::UserSilent
-                }
-            } else {
+            if !c.mark {
                 Row::ResultAcked
+            } else if c.more {
+                Row::UserAwaited
+            } else {
+                Row::UserSilent
             }
         }
     }

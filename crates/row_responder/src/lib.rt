@@ -1,4 +1,5 @@
 // The rows of the responder's states: one function a state, one arm an event.
+// Each state lists all sixteen events, as document 01 does: an event that a catch-all arm took would not be missed.
 #![tactic(auto)]
 
 ghost use Rattle.std.specs.Prelude.{◌≡◌};
@@ -57,14 +58,12 @@ pub fn invoke_resp_wait1(e: Event, c: Conditions) -> Row
         Event::UserResult => Row::NotAllowed,
         Event::UserAbort => Row::UserAborts,
         Event::Timer => {
-            if c.mark {
-                if c.more {
-                    Row::UserAwaited
-                } else {
-                    Row::UserSilent
-                }
-            } else {
+            if !c.mark {
                 Row::InvokeAcked
+            } else if c.more {
+                Row::UserAwaited
+            } else {
+                Row::UserSilent
             }
         }
     }
@@ -91,14 +90,12 @@ pub fn invoke_resp_wait2(e: Event, c: Conditions) -> Row
         Event::UserResult => Row::ResultSent,
         Event::UserAbort => Row::UserAborts,
         Event::Timer => {
-            if c.mark {
-                if c.more {
-                    Row::UserAwaited
-                } else {
-                    Row::UserSilent
-                }
-            } else {
+            if !c.mark {
                 Row::HoldOnSent
+            } else if c.more {
+                Row::UserAwaited
+            } else {
+                Row::UserSilent
             }
         }
     }

@@ -36,6 +36,7 @@ pub struct Turn {
 }
 
 // No counter passes 8.
+#[tactic(auto, unfolding(crate::specs::Turns::up_of))]
 fn up(n: u8) -> u8
     ensures { result ≡ up_of n }
 {
@@ -46,11 +47,9 @@ fn rcr_after(c: Count, rcr: Rcr) -> Rcr
     ensures { result ≡ rcr_after c rcr }
 {
     match c {
-        Count::Same => rcr,
         Count::RcrZero => Rcr(0),
         Count::RcrUp => Rcr(up(rcr.0)),
-        Count::AecZero => rcr,
-        Count::AecUp => rcr,
+        _ => rcr,
     }
 }
 
@@ -58,45 +57,28 @@ fn aec_after(c: Count, aec: Aec) -> Aec
     ensures { result ≡ aec_after c aec }
 {
     match c {
-        Count::Same => aec,
-        Count::RcrZero => aec,
-        Count::RcrUp => aec,
         Count::AecZero => Aec(0),
         Count::AecUp => Aec(up(aec.0)),
+        _ => aec,
     }
 }
 
 fn hold_on_after(m: Mark, was: bool) -> bool
     ensures { result ≡ hold_on_after m was }
 {
-    match m {
-        Mark::Same => was,
-        Mark::HoldOn => true,
-        Mark::TidokSent => was,
-        Mark::HoldOnSent => was,
-    }
+    matches!(m, Mark::HoldOn) || was
 }
 
 fn tidok_sent_after(m: Mark, was: bool) -> bool
     ensures { result ≡ tidok_sent_after m was }
 {
-    match m {
-        Mark::Same => was,
-        Mark::HoldOn => was,
-        Mark::TidokSent => true,
-        Mark::HoldOnSent => was,
-    }
+    matches!(m, Mark::TidokSent) || was
 }
 
 fn hold_on_sent_after(m: Mark, was: bool) -> bool
     ensures { result ≡ hold_on_sent_after m was }
 {
-    match m {
-        Mark::Same => was,
-        Mark::HoldOn => was,
-        Mark::TidokSent => was,
-        Mark::HoldOnSent => true,
-    }
+    matches!(m, Mark::HoldOnSent) || was
 }
 
 fn exit_len_after(x: ExitInfo, was: u8, given: u8) -> u8
@@ -112,11 +94,7 @@ fn exit_len_after(x: ExitInfo, was: u8, given: u8) -> u8
 fn stores_exit(x: ExitInfo) -> bool
     ensures { result ≡ stores_exit x }
 {
-    match x {
-        ExitInfo::Same => false,
-        ExitInfo::Given => true,
-        ExitInfo::Empty => false,
-    }
+    matches!(x, ExitInfo::Given)
 }
 
 fn len_after(cell: bool, was: u32, given: u32) -> u32
@@ -126,11 +104,16 @@ fn len_after(cell: bool, was: u32, given: u32) -> u32
 }
 
 // The deadline of a record whose timer is stopped, or not started: none, or the waiting limit.
+#[tactic(auto, unfolding(crate::specs::Turns::stopped_at))]
 fn stopped(time: u64, limit: u32) -> u64
     requires { time ≤ time_bound }
     ensures { result ≡ stopped_at time limit }
 {
-    if limit == 0 { 0 } else { time + limit as u64 }
+    if limit == 0 {
+        0
+    } else {
+        time + u64::from(limit)
+    }
 }
 
 fn deadline_after(t: Timer, was: u64, time: u64, s: Settings, r: u32) -> u64
@@ -140,9 +123,9 @@ fn deadline_after(t: Timer, was: u64, time: u64, s: Settings, r: u32) -> u64
     match t {
         Timer::Runs => was,
         Timer::Stop => stopped(time, s.limit),
-        Timer::A => time + s.a as u64,
-        Timer::W => time + s.w as u64,
-        Timer::R => time + r as u64,
+        Timer::A => time + u64::from(s.a),
+        Timer::W => time + u64::from(s.w),
+        Timer::R => time + u64::from(r),
     }
 }
 
@@ -153,9 +136,7 @@ fn limit_after(t: Timer, was: u32, limit: u32) -> u32
     match t {
         Timer::Runs => was,
         Timer::Stop => limit,
-        Timer::A => 0,
-        Timer::W => 0,
-        Timer::R => 0,
+        Timer::A | Timer::W | Timer::R => 0,
     }
 }
 
@@ -171,38 +152,39 @@ fn cost_of(send: Send, len: u32) -> u64
     ensures { result ≡ cost_of send len }
 {
     match send {
-        Send::Nothing => 0,
-        Send::Invoke(_) => 4 + len as u64,
+        Send::Invoke(_) => 4 + u64::from(len),
         Send::Tidok(_) => 3,
-        Send::LastAck(_) => 0,
-        Send::HoldOn(_) => 0,
-        Send::Tidve(_) => 0,
-        Send::Result(_) => 0,
-        Send::Abort(_, _) => 0,
+        _ => 0,
     }
 }
 
 // The octets that a request has sent; on a made-up table the count stops at its most.
+#[tactic(auto, using(crate::proofs::Costs::cost_most), unfolding(crate::specs::Turns::sent_after))]
 fn sent_after(send: Send, len: u32, was: u32, most: u32) -> u32
     ensures { result ≡ sent_after (was + cost_of send len) most }
 {
-    let sum = was as u64 + cost_of(send, len);
-    if sum < most as u64 { sum as u32 } else { most }
+    let sum = u64::from(was) + cost_of(send, len);
+    if sum < u64::from(most) {
+        sum as u32
+    } else {
+        most
+    }
 }
 
 // The record that an opening starts from; with zeros, a free record.
+#[tactic(auto, unfolding(crate::specs::Turns::new_record))]
 pub fn new_record(peer: u8, tid: u16, user_ack: bool, tidnew: bool) -> Record
     ensures { result ≡ new_record peer tid user_ack tidnew }
 {
     Record {
         state: State::Free,
-        peer: peer,
-        tid: tid,
-        user_ack: user_ack,
+        peer,
+        tid,
+        user_ack,
         hold_on: false,
         tidok_sent: false,
         hold_on_sent: false,
-        tidnew: tidnew,
+        tidnew,
         rcr: Rcr(0),
         aec: Aec(0),
         exit_len: 0,
@@ -215,49 +197,30 @@ pub fn new_record(peer: u8, tid: u16, user_ack: bool, tidnew: bool) -> Record
 }
 
 // The record in its next state.
+#[tactic(auto, unfolding(crate::specs::Turns::moved_to))]
 fn moved_to(state: State, a: Act, r: Record, g: Given, s: Settings, t: &[u8]) -> Record
     requires { (header_size ≤ length t.now) × (g.time ≤ time_bound) }
     ensures { result ≡ moved_to state a r g s (intervals_of t.now) }
 {
-    let count = a.count;
-    let mark = a.mark;
-    let timer = a.timer;
-    let exit = a.exit;
-    let send = a.send;
-    let was_rcr = r.rcr;
-    let was_aec = r.aec;
-    let rcr = rcr_after(count, was_rcr);
-    let aec = aec_after(count, was_aec);
-    let hold_on = hold_on_after(mark, r.hold_on);
-    let tidok_sent = tidok_sent_after(mark, r.tidok_sent);
-    let hold_on_sent = hold_on_sent_after(mark, r.hold_on_sent);
-    let exit_len = exit_len_after(exit, r.exit_len, g.exit_len);
-    let class = table_record::class_of(state);
+    let rcr = rcr_after(a.count, r.rcr);
+    let len = len_after(a.cell, r.len, g.len);
+    let class = state.class();
     let rows = table_layout::intervals_of(t);
     let again = table_tids::interval(rows, class, rcr);
-    let deadline = deadline_after(timer, r.deadline, g.time, s, again);
-    let len = len_after(a.cell, r.len, g.len);
-    let limit = limit_after(timer, r.limit, s.limit);
-    let unknown = unknown_after(a.item, r.unknown, g.unknown);
-    let most = table_record::sent_most(s.rcr_max);
-    let sent = sent_after(send, len, r.sent, most);
     Record {
-        state: state,
-        peer: r.peer,
-        tid: r.tid,
-        user_ack: r.user_ack,
-        hold_on: hold_on,
-        tidok_sent: tidok_sent,
-        hold_on_sent: hold_on_sent,
-        tidnew: r.tidnew,
-        rcr: rcr,
-        aec: aec,
-        exit_len: exit_len,
-        deadline: deadline,
-        len: len,
-        limit: limit,
-        unknown: unknown,
-        sent: sent,
+        state,
+        hold_on: hold_on_after(a.mark, r.hold_on),
+        tidok_sent: tidok_sent_after(a.mark, r.tidok_sent),
+        hold_on_sent: hold_on_sent_after(a.mark, r.hold_on_sent),
+        rcr,
+        aec: aec_after(a.count, r.aec),
+        exit_len: exit_len_after(a.exit, r.exit_len, g.exit_len),
+        deadline: deadline_after(a.timer, r.deadline, g.time, s, again),
+        len,
+        limit: limit_after(a.timer, r.limit, s.limit),
+        unknown: unknown_after(a.item, r.unknown, g.unknown),
+        sent: sent_after(a.send, len, r.sent, table_record::sent_most(s.rcr_max)),
+        ..r
     }
 }
 
@@ -274,46 +237,34 @@ fn state_after(n: Next, was: State) -> State
 fn ends(n: Next) -> bool
     ensures { result ≡ ends_by n }
 {
-    match n {
-        Next::Stays => false,
-        Next::Ends => true,
-        Next::Goes(_) => false,
-    }
+    matches!(n, Next::Ends)
 }
 
 // One call of `moved_to`, so that the array of intervals lies on the stack once.
+#[tactic(auto, using(crate::proofs::After::ended, crate::proofs::After::moved))]
 fn record_after(a: Act, r: Record, g: Given, s: Settings, t: &[u8]) -> Record
     requires { (header_size ≤ length t.now) × (g.time ≤ time_bound) }
     ensures { result ≡ record_after a.next a r g s (intervals_of t.now) }
 {
-    let next = a.next;
-    if ends(next) {
+    if ends(a.next) {
         return new_record(0, 0, false, false);
     }
-    let was = r.state;
-    let state = state_after(next, was);
-    moved_to(state, a, r, g, s, t)
+    moved_to(state_after(a.next, r.state), a, r, g, s, t)
 }
 
 // The turn of a record under a row, or of a new record.
+#[tactic(auto, unfolding(crate::specs::Turns::turn_of))]
 pub fn turn_of(a: Act, r: Record, g: Given, s: Settings, t: &[u8]) -> Turn
     requires { (header_size ≤ length t.now) × (g.time ≤ time_bound) }
     ensures { result ≡ turn_of a r g s (intervals_of t.now) }
 {
-    let after = record_after(a, r, g, s, t);
-    let send = a.send;
-    let first = a.first;
-    let second = a.second;
-    let exit = a.exit;
-    let stores = stores_exit(exit);
-    let cache = a.cache;
     Turn {
-        after: after,
-        send: send,
-        first: first,
-        second: second,
+        after: record_after(a, r, g, s, t),
+        send: a.send,
+        first: a.first,
+        second: a.second,
         cell: a.cell,
-        exit: stores,
-        cache: cache,
+        exit: stores_exit(a.exit),
+        cache: a.cache,
     }
 }

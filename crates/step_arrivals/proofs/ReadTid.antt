@@ -9,9 +9,8 @@ use Rattle.base_lists.specs.Seq.{pick}
 use Rattle.base_lists.proofs.StoresAndParts.{true_false}
 use Rattle.base_numbers.specs.declared.Malformed.TheVariants.{D1, D2, D7}
 use Rattle.base_numbers.specs.declared.Refusal.TheVariants.{WrongLength}
-use Rattle.base_numbers.specs.declared.Verdict.{Verdict}
-use Rattle.base_numbers.specs.declared.Verdict.TheVariants.{Sound, Bad}
-use Rattle.codec_items.specs.declared.Items.{Items}
+use Rattle.std.specs.Prelude.{Ok, Err}
+use Rattle.codec_items.specs.Items.{Verdict, Items}
 use Rattle.codec_pdu.specs.Pdu.{sound_of, bare_of, blank_pdu}
 use Rattle.codec_pdu.specs.declared.Kind.TheVariants.{Wrong, Refused}
 use Rattle.codec_pdu.specs.declared.Pdu.{Pdu}
@@ -60,8 +59,8 @@ module _ (s : List ℕ) where
       by_kind false b e = refl
 
       by_verdict : (v : Verdict) → HasTid h.tid.0 (finish_by v s h i)
-      by_verdict (Bad d) e = true_false (sym e)
-      by_verdict Sound e = by_kind (bare_of h.kind) (eqb (length s - i.end) 0) e
+      by_verdict (Err d) e = true_false (sym e)
+      by_verdict (Ok tt) e = by_kind (bare_of h.kind) (eqb (length s - i.end) 0) e
 
   after_tid : (h : Head) → HeadTid s h → HasTid (tid_of s) (after_head s h)
   unfolding after_head blank_pdu

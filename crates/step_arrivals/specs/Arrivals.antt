@@ -1,5 +1,5 @@
 -- What a received PDU is to the engine (01, "TIDs" and "Events").
-use Rattle.std.specs.Prelude.{ℕ, ◌+◌, ◌*◌, ◌%◌, List, Bool, false, not, length, get_or, ltb, leb, eqb}
+use Rattle.std.specs.Prelude.{ℕ, ◌+◌, ◌*◌, ◌%◌, List, Bool, false, not, length, get_or, ltb, leb, eqb, Option, Some, None}
 use Rattle.base_layout.specs.Layout.{tid_count, cell_size}
 use Rattle.base_lists.specs.Seq.{pick}
 use Rattle.codec_pdu.specs.Pdu.{sound_of}
@@ -12,8 +12,6 @@ use Rattle.table_record.specs.declared.Role.TheVariants.{Initiator, Responder}
 use Rattle.row_events.specs.declared.Event.{Event}
 use Rattle.row_events.specs.declared.Event.TheVariants as Event
 use Rattle.row_choice.specs.declared.Arrived.{Arrived}
-use Rattle.step_arrivals.specs.declared.Name.{Name}
-use Rattle.step_arrivals.specs.declared.Name.TheVariants.{Nobody, Of}
 use Rattle.step_arrivals.specs.declared.Cause.{Cause}
 use Rattle.step_arrivals.specs.declared.Wanted.{Wanted}
 
@@ -22,12 +20,12 @@ unfoldable pub tid_of : List ℕ → ℕ
 tid_of s = get_or s 1 0 * 256 + get_or s 2 0
 
 -- 01: "Invoke with top bit 1, or Result with 0, is ignored before any test, malformed or not. Any other PDU of three octets or more names the record of its peer and low 15 TID bits, as initiator when the top bit is 1; a shorter one names none"
-unfoldable pub name_of : List ℕ → Name
+unfoldable pub name_of : List ℕ → Option (Role × ℕ)
 name_of s =
-    pick (ltb (length s) 3) Nobody
+    pick (ltb (length s) 3) None
     (pick (ltb (tid_of s) tid_count)
-    (pick (eqb (type_of s) 2) Nobody (Of Responder (tid_of s % tid_count)))
-    (pick (eqb (type_of s) 1) Nobody (Of Initiator (tid_of s % tid_count))))
+    (pick (eqb (type_of s) 2) None (Some (Responder, tid_of s % tid_count)))
+    (pick (eqb (type_of s) 1) None (Some (Initiator, tid_of s % tid_count))))
 
 -- 01: "The top bit is 0 towards the responder, 1 towards the initiator": the type that is ignored towards a role
 abbrev pub ignored_type : Role → ℕ

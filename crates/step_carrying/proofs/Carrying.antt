@@ -6,6 +6,7 @@ use mathlib.Core.List.{List}
 use mathlib.Core.Bool.{Bool, true, false}
 use lib.ListN.{length}
 use lib.Dec.{eqb}
+use Rattle.std.specs.Prelude.{Ok}
 use Rattle.base_layout.specs.Layout.{header_size, record_size, tid_bound, records_bound}
 use Rattle.base_lists.specs.Seq.{pick, put}
 use Rattle.table_record.specs.Record.{state_number}
@@ -21,7 +22,6 @@ use Rattle.step_plan.specs.declared.Holder.{Holder}
 use Rattle.step_plan.specs.declared.Call.{Call}
 use Rattle.step_live.specs.Turning.{holder_of}
 use Rattle.step_opening.specs.Opens.{opening_changes}
-use Rattle.step_plan.specs.declared.Plan.TheVariants.{Go}
 use Rattle.step_outcome.specs.Carry.{Lent, done, taken_of, carried_out, outcome, Ready}
 use Rattle.c_answers.specs.Answers.{answer_number, answer_after, turn_words, change_cost, cost_by, cost_words}
 use Rattle.c_answers.specs.declared.Cost.{Cost}
@@ -90,6 +90,6 @@ module _ (l : Lent) (coming : Coming) (g : Given) (c : Call)
       → told ≡ put words 32 (cost_words cost)
       → done (taken_of sent (step_of turn changes h c)) t s o ≡ carried_out l (step_of turn changes h c)
       → w ≡ put told 0 (turn_words sent turn h c)
-      → called 0 t s o w ≡ handed_by l (Go (coming_step l.table coming g c)) words
+      → called 0 t s o w ≡ handed_by l (Ok (coming_step l.table coming g c)) words
   unfolding handed_by costed plan_cost outcome handed answer_number answer_after turn_words step_of
   given_so sent t s o words told w cost k p d e = rw (← step_is, ← d, e, p, k, cost_same) refl

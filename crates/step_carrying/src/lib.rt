@@ -1,11 +1,10 @@
 // Carries an accepted call out at once: the turn, the table, the cell, the PDU, and the words of the answer.
 #![tactic(auto)]
 
-ghost use Rattle.std.specs.Prelude.{◌≡◌, ◌+◌, ◌*◌, ◌≤◌, ◌<◌, length};
+ghost use Rattle.std.specs.Prelude.{◌≡◌, ◌+◌, ◌*◌, ◌≤◌, ◌<◌, length, Ok};
 ghost use Rattle.base_layout.specs.Layout.{header_size, record_size, time_bound, tid_bound};
 ghost use Rattle.base_lists.specs.Seq.{put};
 ghost use Rattle.table_layout.specs.Table.{put_clock};
-ghost use Rattle.step_plan.specs.declared.Plan.TheVariants.{Go};
 ghost use Rattle.step_outcome.specs.Carry.{Ready, lent};
 ghost use Rattle.step_carrying.specs.Coming.{place_of, record_for, act_for, turn_for, holder_for, changes_for, coming_step, InRange};
 ghost use Rattle.c_answers.specs.Answers.{idle_words, no_cost, cost_words};
@@ -14,7 +13,7 @@ ghost use Rattle.c_answers.specs.Handed.{called, handed_by};
 use row_columns::Act;
 use row_events::{Opening, Row};
 use row_turns::{Given, Turn};
-use step_commit::{Changes, GenTidChange};
+use step_commit::{Changes, GenTid};
 use step_plan::{Call, Holder};
 use table_record::Record;
 
@@ -22,9 +21,10 @@ use table_record::Record;
 #[derive(Clone, Copy)]
 pub enum Coming {
     Live(usize, Row),
-    Opens(Opening, Holder, GenTidChange),
+    Opens(Opening, Holder, Option<GenTid>),
 }
 
+#[inline(never)]
 fn record_for(t: &[u8], coming: Coming) -> Record
     requires { header_size + place_of coming * record_size + record_size ≤ length t.now }
     ensures { result ≡ record_for t.now coming }
@@ -44,13 +44,12 @@ fn act_for(coming: Coming, r: Record, g: Given) -> Act
     }
 }
 
+#[tactic(auto, unfolding(crate::specs::Coming::turn_for))]
 fn turn_for(t: &[u8], coming: Coming, r: Record, g: Given) -> Turn
     requires { (header_size ≤ length t.now) × (g.time ≤ time_bound) }
     ensures { result ≡ turn_for t.now coming r g }
 {
-    let a = act_for(coming, r, g);
-    let s = table_layout::settings_of(t);
-    row_turns::turn_of(a, r, g, s, t)
+    row_turns::turn_of(act_for(coming, r, g), r, g, table_layout::settings_of(t), t)
 }
 
 fn holder_for(coming: Coming, r: Record) -> Holder
@@ -62,15 +61,14 @@ fn holder_for(coming: Coming, r: Record) -> Holder
     }
 }
 
+#[tactic(auto, unfolding(crate::specs::Coming::changes_for))]
 fn changes_for(t: &[u8], coming: Coming, turn: Turn, h: Holder, time: u64) -> Changes
     requires { (header_size ≤ length t.now) × (h.tid ≤ tid_bound) }
     ensures { result ≡ changes_for t.now coming turn h time }
 {
-    let cached = table_layout::cached_of(t, base_lists::size(h.peer));
+    let cached = table_layout::cached_of(t, usize::from(h.peer));
     match coming {
-        Coming::Live(_, _) => step_changes::turn_changes(
-            turn, h.place, h.peer, h.tid, cached, time,
-        ),
+        Coming::Live(..) => step_changes::turn_changes(turn, h.place, h.peer, h.tid, cached, time),
         Coming::Opens(_, _, gen_tid) => step_opening::opening_changes(
             turn, h, cached, gen_tid, time,
         ),
@@ -92,15 +90,13 @@ pub fn carry(
     requires ready { Ready (lent table.old store.old out.old given.now exit.now) (coming_step table.old coming g c) }
     requires in_range { InRange table.old coming g }
     requires in_bounds { 34 ≤ length answer.old }
-    ensures { called result table.new store.new out.new answer.new ≡ handed_by (lent table.old store.old out.old given.now exit.now) (Go (coming_step table.old coming g c)) answer.old }
+    ensures { called result table.new store.new out.new answer.new ≡ handed_by (lent table.old store.old out.old given.now exit.now) (Ok (coming_step table.old coming g c)) answer.old }
 {
     let r = record_for(table, coming);
     let turn = turn_for(table, coming, r, g);
     let h = holder_for(coming, r);
     let changes = changes_for(table, coming, turn, h, g.time);
-    let change = changes.change;
-    let cost = c_answers::change_cost(change, r);
-    c_answers::report(&mut *answer, cost);
+    c_answers::report(answer, c_answers::change_cost(changes.change, r));
     let sent = step_outcome::carry_out(table, store, out, given, exit, turn, changes, h, c);
     c_answers::give(answer, sent, turn, h, c);
     0
@@ -113,7 +109,7 @@ pub fn idle(table: &mut [u8], answer: &mut [u64], time: u64) -> u64
 {
     let words = [0u64; 32];
     table_layout::put_clock(table, time);
-    c_answers::report(&mut *answer, c_answers::no_cost());
-    base_lists::store_words(answer, 0, &words);
+    c_answers::report(answer, c_answers::no_cost());
+    base_lists::store(answer, 0, &words);
     0
 }

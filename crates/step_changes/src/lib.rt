@@ -7,7 +7,7 @@ ghost use Rattle.step_changes.specs.Changes.{change_of, cached_after, turn_chang
 
 use row_columns::Cache;
 use row_turns::Turn;
-use step_commit::{Change, Changes, GenTidChange, TidChange};
+use step_commit::{Change, Changes};
 use table_record::Record;
 
 // What becomes of the record: where it isn't live afterwards, what the caller says.
@@ -15,8 +15,7 @@ use table_record::Record;
 pub fn change_of(after: Record, ended: Change) -> Change
     ensures { result ≡ change_of after ended }
 {
-    let state = after.state;
-    if table_record::state_number(state) == 0 {
+    if u8::from(after.state) == 0 {
         ended
     } else {
         Change::Put(after)
@@ -25,40 +24,31 @@ pub fn change_of(after: Record, ended: Change) -> Change
 
 // What becomes of the cached TID of the peer: 0 is none, else LastTID and 1.
 #[tactic(auto, unfolding(crate::specs::Changes::cached_after))]
-pub fn cached_after(cache: Cache, cached: u16, tid: u16) -> TidChange
+pub fn cached_after(cache: Cache, cached: u16, tid: u16) -> Option<u16>
     requires { tid < tid_count }
     ensures { result ≡ cached_after cache cached tid }
 {
     match cache {
-        Cache::Same => TidChange::Unchanged,
-        Cache::Set => TidChange::Set(tid + 1),
-        Cache::SetIfNone => {
-            if cached == 0 {
-                TidChange::Set(tid + 1)
-            } else {
-                TidChange::Unchanged
-            }
-        }
-        Cache::Drop => TidChange::Set(0),
+        Cache::Same => None,
+        Cache::Set => Some(tid + 1),
+        Cache::SetIfNone => { if cached == 0 { Some(tid + 1) } else { None } }
+        Cache::Drop => Some(0),
     }
 }
 
 // The changes of a turn of the record at a place, whose peer has this TID cached.
+#[tactic(auto, unfolding(crate::specs::Changes::turn_changes))]
 pub fn turn_changes(turn: Turn, place: usize, peer: u8, tid: u16, cached: u16, time: u64) -> Changes
     requires { tid < tid_count }
     ensures { result ≡ turn_changes turn place peer tid cached time }
 {
-    let after = turn.after;
-    let cache = turn.cache;
-    let change = change_of(after, Change::Clear);
-    let header = cached_after(cache, cached, tid);
     Changes {
-        place: place,
-        change: change,
+        place,
+        change: change_of(turn.after, Change::Clear),
         exit: turn.exit,
-        gen_tid: GenTidChange::Unchanged,
-        peer: base_lists::size(peer),
-        cached: header,
-        time: time,
+        gen_tid: None,
+        peer: usize::from(peer),
+        cached: cached_after(turn.cache, cached, tid),
+        time,
     }
 }

@@ -4,14 +4,12 @@ use mathlib.Core.Path.{◌≡◌, refl, ◌∙◌}
 use mathlib.Core.List.{List}
 use mathlib.Core.Bool.{Bool, true, false}
 use lib.ListN.{length}
+use Rattle.std.specs.Prelude.{Option, Some, None}
 use Rattle.base_lists.proofs.StoresAndParts.{length_put}
 use Rattle.table_layout.specs.Table.{put_record, clear_record, put_gen_tid, put_tidnew_due, put_cached, put_clock}
 use Rattle.step_commit.specs.declared.Change.{Change}
 use Rattle.step_commit.specs.declared.Change.TheVariants.{Nothing, Put, Clear}
-use Rattle.step_commit.specs.declared.GenTidChange.{GenTidChange}
-use Rattle.step_commit.specs.declared.GenTidChange.TheVariants as GenTidChange
-use Rattle.step_commit.specs.declared.TidChange.{TidChange}
-use Rattle.step_commit.specs.declared.TidChange.TheVariants.{Unchanged, Set}
+use Rattle.step_commit.specs.declared.GenTid.{GenTid}
 use Rattle.step_commit.specs.declared.Changes.{Changes}
 use Rattle.step_commit.specs.Commit.{record_changed, exit_stored, gen_tid_changed, cache_changed, table_changed}
 
@@ -26,15 +24,15 @@ unfolding exit_stored
 exit_stored_holds t place true exit = length_put t _ exit
 exit_stored_holds t place false exit = refl
 
-gen_tid_changed_holds : (t : List ℕ) (c : GenTidChange) → length (gen_tid_changed t c) ≡ length t
+gen_tid_changed_holds : (t : List ℕ) (c : Option GenTid) → length (gen_tid_changed t c) ≡ length t
 unfolding gen_tid_changed put_gen_tid put_tidnew_due
-gen_tid_changed_holds t GenTidChange.Unchanged = refl
-gen_tid_changed_holds t (GenTidChange.Set tid due) = length_put _ _ _ ∙ length_put t _ _
+gen_tid_changed_holds t None = refl
+gen_tid_changed_holds t (Some g) = length_put _ _ _ ∙ length_put t _ _
 
-cache_changed_holds : (t : List ℕ) (peer : ℕ) (c : TidChange) → length (cache_changed t peer c) ≡ length t
+cache_changed_holds : (t : List ℕ) (peer : ℕ) (c : Option ℕ) → length (cache_changed t peer c) ≡ length t
 unfolding cache_changed put_cached
-cache_changed_holds t peer Unchanged = refl
-cache_changed_holds t peer (Set cached) = length_put t _ _
+cache_changed_holds t peer None = refl
+cache_changed_holds t peer (Some cached) = length_put t _ _
 
 pub length_clock : (t : List ℕ) (time : ℕ) → length (put_clock t time) ≡ length t
 unfolding put_clock

@@ -1,14 +1,11 @@
 -- What an accepted call leaves in the table, from the changes that its row names (01, "Numbers given back").
-use Rattle.std.specs.Prelude.{ℕ, List, Bool, true, false}
+use Rattle.std.specs.Prelude.{ℕ, List, Bool, true, false, Option, Some, None}
 use Rattle.base_layout.specs.Layout.{exit_base}
 use Rattle.base_lists.specs.Seq.{put}
 use Rattle.table_layout.specs.Table.{put_record, clear_record, put_gen_tid, put_tidnew_due, put_cached, put_clock}
 use Rattle.step_commit.specs.declared.Change.{Change}
 use Rattle.step_commit.specs.declared.Change.TheVariants.{Nothing, Put, Clear}
-use Rattle.step_commit.specs.declared.GenTidChange.{GenTidChange}
-use Rattle.step_commit.specs.declared.GenTidChange.TheVariants as GenTidChange
-use Rattle.step_commit.specs.declared.TidChange.{TidChange}
-use Rattle.step_commit.specs.declared.TidChange.TheVariants.{Unchanged, Set}
+use Rattle.step_commit.specs.declared.GenTid.{GenTid}
 use Rattle.step_commit.specs.declared.Changes.{Changes}
 
 -- the record at a place: as it was, with other fields, or freed: "A freed record is zeroed"
@@ -23,13 +20,13 @@ exit_stored t place true exit = put t (exit_base place) exit
 exit_stored t place false exit = t
 
 -- GenTID, and whether TIDnew is then due
-unfoldable pub gen_tid_changed : List ℕ → GenTidChange → List ℕ
-gen_tid_changed t GenTidChange.Unchanged = t
-gen_tid_changed t (GenTidChange.Set tid due) = put_tidnew_due (put_gen_tid t tid) due
+unfoldable pub gen_tid_changed : List ℕ → Option GenTid → List ℕ
+gen_tid_changed t None = t
+gen_tid_changed t (Some g) = put_tidnew_due (put_gen_tid t g.tid) g.tidnew_due
 
-unfoldable pub cache_changed : List ℕ → ℕ → TidChange → List ℕ
-cache_changed t peer Unchanged = t
-cache_changed t peer (Set cached) = put_cached t peer cached
+unfoldable pub cache_changed : List ℕ → ℕ → Option ℕ → List ℕ
+cache_changed t peer None = t
+cache_changed t peer (Some cached) = put_cached t peer cached
 
 -- 01: "An accepted call stores its time"
 unfoldable pub table_changed : List ℕ → Changes → List ℕ → List ℕ

@@ -16,29 +16,22 @@ pub enum Change {
     Clear,
 }
 
-// What becomes of GenTID, and with it of whether TIDnew is due.
+// GenTID, and whether TIDnew is then due.
 #[derive(Clone, Copy)]
-pub enum GenTidChange {
-    Unchanged,
-    Set(u16, bool),
+pub struct GenTid {
+    pub tid: u16,
+    pub tidnew_due: bool,
 }
 
-// What becomes of a peer's cached TID.
-#[derive(Clone, Copy)]
-pub enum TidChange {
-    Unchanged,
-    Set(u16),
-}
-
-// The changes of an accepted call: the record at a place, whether the given exit information is stored with it, GenTID, the cached TID of a peer, the time.
+// The changes of an accepted call: the record at a place, whether the given exit information is stored with it, GenTID and the cached TID of a peer where they change, the time.
 #[derive(Clone, Copy)]
 pub struct Changes {
     pub place: usize,
     pub change: Change,
     pub exit: bool,
-    pub gen_tid: GenTidChange,
+    pub gen_tid: Option<GenTid>,
     pub peer: usize,
-    pub cached: TidChange,
+    pub cached: Option<u16>,
     pub time: u64,
 }
 
@@ -54,6 +47,7 @@ fn change_record(t: &mut [u8], place: usize, change: Change)
     }
 }
 
+#[tactic(auto, unfolding(crate::specs::Commit::exit_stored))]
 fn store_exit(t: &mut [u8], place: usize, stored: bool, exit: &[u8])
     requires record_size_in_bounds { header_size + place * record_size + record_size ≤ length t.old }
     requires len_bound { length exit.now ≤ exit_bound }
@@ -65,43 +59,36 @@ fn store_exit(t: &mut [u8], place: usize, stored: bool, exit: &[u8])
 }
 
 #[tactic(auto, unfolding(crate::specs::Commit::gen_tid_changed))]
-fn change_gen_tid(t: &mut [u8], change: GenTidChange)
+fn change_gen_tid(t: &mut [u8], change: Option<GenTid>)
     requires { header_size ≤ length t.old }
     ensures { t.new ≡ gen_tid_changed t.old change }
 {
-    match change {
-        GenTidChange::Unchanged => {}
-        GenTidChange::Set(tid, due) => {
-            table_layout::put_gen_tid(&mut *t, tid);
-            table_layout::put_tidnew_due(t, due);
-        }
+    if let Some(next) = change {
+        table_layout::put_gen_tid(t, next.tid);
+        table_layout::put_tidnew_due(t, next.tidnew_due);
     }
 }
 
 #[tactic(auto, unfolding(crate::specs::Commit::cache_changed))]
-fn change_cached(t: &mut [u8], peer: usize, change: TidChange)
+fn change_cached(t: &mut [u8], peer: usize, change: Option<u16>)
     requires { (header_size ≤ length t.old) × (peer < peers) }
     ensures { t.new ≡ cache_changed t.old peer change }
 {
-    match change {
-        TidChange::Unchanged => {}
-        TidChange::Set(cached) => table_layout::put_cached(t, peer, cached),
+    if let Some(cached) = change {
+        table_layout::put_cached(t, peer, cached);
     }
 }
 
 // The record, its exit information, GenTID, the cached TID, and last the time.
+#[tactic(auto, unfolding(crate::specs::Commit::table_changed))]
 pub fn commit(t: &mut [u8], c: Changes, exit: &[u8])
     requires record_size_in_bounds { (header_size + c.place * record_size + record_size ≤ length t.old) × (c.peer < peers) }
     requires len_bound { length exit.now ≤ exit_bound }
     ensures { t.new ≡ table_changed t.old c exit.now }
 {
-    let place = c.place;
-    let change = c.change;
-    let gen_tid = c.gen_tid;
-    let cached = c.cached;
-    change_record(&mut *t, place, change);
-    store_exit(&mut *t, place, c.exit, exit);
-    change_gen_tid(&mut *t, gen_tid);
-    change_cached(&mut *t, c.peer, cached);
+    change_record(t, c.place, c.change);
+    store_exit(t, c.place, c.exit, exit);
+    change_gen_tid(t, c.gen_tid);
+    change_cached(t, c.peer, c.cached);
     table_layout::put_clock(t, c.time);
 }

@@ -14,34 +14,33 @@ use table_record::Record;
 fn row_in(r: Record, s: Settings, event: Event) -> Row
     ensures { result ≡ row_in r s event }
 {
-    let state = r.state;
-    let c = row_conditions::conditions_of(s, r);
-    row_choice::row_of(state, event, c)
+    row_choice::row_of(r.state, event, row_conditions::conditions_of(s, r))
 }
 
 // The row that an event meets in the record at a place.
+#[tactic(auto, unfolding(crate::specs::Turning::row_at))]
 pub fn row_at(t: &[u8], place: usize, event: Event) -> Row
     requires { header_size + place * record_size + record_size ≤ length t.now }
     ensures { result ≡ row_at t.now place event }
 {
-    let r = table_layout::record_at(t, place);
-    let s = table_layout::settings_of(t);
-    row_in(r, s, event)
+    row_in(
+        table_layout::record_at(t, place),
+        table_layout::settings_of(t),
+        event,
+    )
 }
 
 // The record's name, class, U/P and TIDnew, and the message in its cell.
+#[tactic(auto, unfolding(crate::specs::Turning::holder_of))]
 pub fn holder_of(r: Record, place: usize) -> Holder
     ensures { result ≡ holder_of r place }
 {
-    let state = r.state;
-    let role = table_record::role_of(state);
-    let class = table_record::class_of(state);
     Holder {
-        place: place,
-        role: role,
+        place,
+        role: r.state.role(),
         peer: r.peer,
         tid: r.tid,
-        class: class,
+        class: r.state.class(),
         up: r.user_ack,
         tidnew: r.tidnew,
         len: r.len,

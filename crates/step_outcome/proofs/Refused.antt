@@ -3,14 +3,13 @@ use Prim.Native.Nat.{ℕ, ◌≤◌}
 use native.Mathlib.Omega.{arith}
 use mathlib.Core.Path.{◌≡◌, refl}
 use lib.ListN.{length, get_or}
+use Rattle.std.specs.Prelude.{Err}
 use Rattle.base_octets.proofs.StoredAndRead.{get_d_after}
 use Rattle.base_numbers.specs.declared.Refusal.{Refusal}
 use Rattle.step_plan.specs.declared.Step.{Step}
-use Rattle.step_plan.specs.declared.Plan.TheVariants.{Refuse}
-use Rattle.step_outcome.specs.declared.Answer.TheVariants.{Refused}
 use Rattle.step_outcome.specs.Carry.{Lent, done, outcome, sent_then, carried_out}
 
-pub refused_changes_nothing : (l : Lent) (r : Refusal) → outcome l (Refuse r) ≡ done (Refused r) l.table l.store l.output
+pub refused_changes_nothing : (l : Lent) (r : Refusal) → outcome l (Err r) ≡ done (Err r) l.table l.store l.output
 unfolding outcome
 refused_changes_nothing l r = refl
 

@@ -1,9 +1,10 @@
 -- What a call gives and leaves (01, "Numbers given back"): a refusal "changes no lent byte"; an accepted call's step, carried out.
-use Rattle.std.specs.Prelude.{ℕ, ◌+◌, ◌*◌, ◌≤◌, ◌<◌, ◌≡◌, List, Bool, true, false, length}
+use Rattle.std.specs.Prelude.{ℕ, ◌+◌, ◌*◌, ◌≤◌, ◌<◌, ◌≡◌, List, Bool, true, false, length, Ok, Err, Result}
 use Rattle.base_layout.specs.Layout.{record_size, base, peers, exit_bound, cell_size, output_least}
 use Rattle.base_lists.specs.Seq.{put, part}
+use Rattle.base_numbers.specs.declared.Refusal.{Refusal}
 use Rattle.row_columns.specs.declared.Send.{Send}
-use Rattle.row_columns.specs.declared.Send.TheVariants.{Nothing, Invoke, Tidok, LastAck, HoldOn, Tidve, Result, Abort}
+use Rattle.row_columns.specs.declared.Send.TheVariants as Send
 use Rattle.step_commit.specs.Commit.{table_changed}
 use Rattle.step_sending.specs.Sending.{source_of}
 use Rattle.step_sending.specs.Octets.{FitSend, octets_sent}
@@ -11,11 +12,21 @@ use Rattle.step_sending.specs.declared.Sender.{Sender}
 use Rattle.step_sending.specs.declared.Source.{Source}
 use Rattle.step_sending.specs.declared.Source.TheVariants as Source
 use Rattle.step_plan.specs.declared.Part.{Part}
+use Rattle.step_plan.specs.declared.Told.{Told}
+use Rattle.step_shown.specs.declared.Shown.{Shown}
 use Rattle.step_plan.specs.declared.Step.{Step}
-use Rattle.step_plan.specs.declared.Plan.{Plan}
-use Rattle.step_plan.specs.declared.Plan.TheVariants.{Refuse, Go}
-use Rattle.step_outcome.specs.declared.Answer.{Answer}
-use Rattle.step_outcome.specs.declared.Answer.TheVariants.{Refused, Taken}
+use Rattle.step_plan.specs.Steps.{Plan}
+
+-- what an accepted call gives: how much it sent, what it tells, and what the user is shown, in order
+pub record Taken : Type 0 where
+  pub sent : ℕ
+  pub told : Told
+  pub first : Shown
+  pub second : Shown
+
+-- what a call gives: that, or a refusal
+abbrev pub Answer : Type 0
+Answer = Result Taken Refusal
 
 -- what a call is lent: table, store and output; the message or PDU; the exit information
 pub record Lent : Type 0 where
@@ -45,14 +56,14 @@ cell_written store false place given m = store
 
 -- there is nothing to send
 abbrev pub is_nothing : Send → Bool
-is_nothing Nothing = true
-is_nothing (Invoke again) = false
-is_nothing (Tidok again) = false
-is_nothing (LastAck again) = false
-is_nothing (HoldOn again) = false
-is_nothing (Tidve again) = false
-is_nothing (Result again) = false
-is_nothing (Abort kind reason) = false
+is_nothing Send.Nothing = true
+is_nothing (Send.Invoke again) = false
+is_nothing (Send.Tidok again) = false
+is_nothing (Send.LastAck again) = false
+is_nothing (Send.HoldOn again) = false
+is_nothing (Send.Tidve again) = false
+is_nothing (Send.Result again) = false
+is_nothing (Send.Abort kind reason) = false
 
 -- the slice in which the parts of the PDU lie: what the call was given, the store, or the record
 abbrev pub slice_of : Source → List ℕ → List ℕ → List ℕ → List ℕ
@@ -77,21 +88,21 @@ sent_then l step = octets_out l.given (store_then l step) (table_then l step) st
 
 -- the answer of a step that sent this much
 abbrev pub taken_of : ℕ → Step → Answer
-taken_of sent step = Taken sent step.told step.first step.second
+taken_of sent step = Ok (record { sent = sent; told = step.told; first = step.first; second = step.second })
 
 -- 01: "Output after the PDU is unchanged"
 unfoldable pub carried_out : Lent → Step → Done
 carried_out l step =
     done
-    (Taken (length (sent_then l step)) step.told step.first step.second)
+    (taken_of (length (sent_then l step)) step)
     (table_then l step)
     (store_then l step)
     (put l.output 0 (sent_then l step))
 
 -- 01: "A refusal gives only its number and changes no lent byte"
 unfoldable pub outcome : Lent → Plan → Done
-outcome l (Refuse r) = done (Refused r) l.table l.store l.output
-outcome l (Go step) = carried_out l step
+outcome l (Err r) = done (Err r) l.table l.store l.output
+outcome l (Ok step) = carried_out l step
 
 -- the message lies in what was given, and has room in the cell
 abbrev pub CellFits : Bool → ℕ → Part → ℕ → ℕ → Type 0

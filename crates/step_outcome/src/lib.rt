@@ -7,25 +7,11 @@ ghost use Rattle.base_lists.specs.Seq.{put};
 ghost use Rattle.step_plan.specs.Steps.{step_of};
 ghost use Rattle.step_outcome.specs.Carry.{is_nothing, CellFits, cell_written, FitOut, octets_out, Ready, lent, done, taken_of, carried_out};
 
-use base_numbers::Refusal;
 use row_columns::Send;
 use row_turns::Turn;
 use step_commit::Changes;
-use step_plan::{Call, Holder, Part, Told};
+use step_plan::{Call, Holder, Part};
 use step_sending::{Sender, Source};
-use step_shown::Shown;
-
-// What a call gives: a refusal, or how much it sent, what it tells, and what the user is shown, in order.
-#[derive(Clone, Copy)]
-pub enum Answer {
-    Refused(Refusal),
-    Taken {
-        sent: usize,
-        told: Told,
-        first: Shown,
-        second: Shown,
-    },
-}
 
 // The message goes to the record's cell; the cell's octets past it stay.
 fn write_cell(store: &mut [u8], cell: bool, place: usize, given: &[u8], message: Part)
@@ -46,16 +32,7 @@ fn write_cell(store: &mut [u8], cell: bool, place: usize, given: &[u8], message:
 fn is_nothing(send: Send) -> bool
     ensures { result ≡ is_nothing send }
 {
-    match send {
-        Send::Nothing => true,
-        Send::Invoke(_) => false,
-        Send::Tidok(_) => false,
-        Send::LastAck(_) => false,
-        Send::HoldOn(_) => false,
-        Send::Tidve(_) => false,
-        Send::Result(_) => false,
-        Send::Abort(_, _) => false,
-    }
+    matches!(send, Send::Nothing)
 }
 
 // At most one PDU, from where its parts lie.
@@ -98,10 +75,8 @@ pub fn carry_out(
     requires place_lt_records_bound { h.place < records_bound }
     ensures { done (taken_of result (step_of turn changes h c)) table.new store.new out.new ≡ carried_out (lent table.old store.old out.old given.now exit.now) (step_of turn changes h c) }
 {
-    let message = c.message;
-    let send = turn.send;
     let by = step_plan::sender_of(turn, h, c);
-    step_commit::commit(&mut *table, changes, exit);
-    write_cell(&mut *store, turn.cell, changes.place, given, message);
-    send_pdu(out, given, store, table, send, by)
+    step_commit::commit(table, changes, exit);
+    write_cell(store, turn.cell, changes.place, given, c.message);
+    send_pdu(out, given, store, table, turn.send, by)
 }

@@ -1,13 +1,12 @@
 -- What an accepted call does, as data (01, "Numbers given back"): "stores its time, .. sends at most one PDU and gives at most two indications, in order".
-use Rattle.std.specs.Prelude.{ℕ, ◌*◌, false}
+use Rattle.std.specs.Prelude.{ℕ, ◌*◌, false, None, Result}
 use Rattle.base_layout.specs.Layout.{exit_base, cell_size}
+use Rattle.base_numbers.specs.declared.Refusal.{Refusal}
 use Rattle.table_record.specs.declared.Role.TheVariants.{Initiator}
 use Rattle.row_columns.specs.declared.Send.{Send}
 use Rattle.row_columns.specs.declared.Send.TheVariants as Send
 use Rattle.row_turns.specs.declared.Turn.{Turn}
 use Rattle.step_commit.specs.declared.Change.TheVariants as Change
-use Rattle.step_commit.specs.declared.GenTidChange.TheVariants as GenTidChange
-use Rattle.step_commit.specs.declared.TidChange.TheVariants as TidChange
 use Rattle.step_commit.specs.declared.Changes.{Changes}
 use Rattle.step_sending.specs.Sending.{source_of}
 use Rattle.step_sending.specs.declared.Sender.{Sender}
@@ -97,13 +96,17 @@ step_of turn changes h c = record {
   told = told_of_is c.tells h;
 }
 
+-- what a call will do: a step, or a refusal that changes nothing
+abbrev pub Plan : Type 0
+Plan = Result Step Refusal
+
 -- nobody sends
 unfoldable pub no_sender : Sender
 no_sender = record { role = Initiator; tid = 0; class = 0; user_ack = false; tidnew = false; start = 0; len = 0; exit_start = 0; exit_len = 0; unknown = 0 }
 
 -- a call that changes nothing but the time
 unfoldable pub idle_changes : ℕ → Changes
-idle_changes time = record { place = 0; change = Change.Nothing; exit = false; gen_tid = GenTidChange.Unchanged; peer = 0; cached = TidChange.Unchanged; time = time }
+idle_changes time = record { place = 0; change = Change.Nothing; exit = false; gen_tid = None; peer = 0; cached = None; time = time }
 
 -- 01: "An accepted call stores its time", also where a PDU is ignored or none is due
 unfoldable pub idle_step : ℕ → Step

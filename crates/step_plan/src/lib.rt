@@ -6,7 +6,6 @@ ghost use Rattle.base_layout.specs.Layout.{records_bound};
 ghost use Rattle.step_plan.specs.Steps.{no_part, cell_of, message_of, sender_of, place_in, context_of, told_of_is};
 
 use base_layout::{EXIT_OFFSET, HEADER_SIZE, RECORD_SIZE};
-use base_numbers::Refusal;
 use row_columns::Send;
 use row_turns::Turn;
 use step_commit::Changes;
@@ -71,14 +70,8 @@ pub struct Step {
     pub told: Told,
 }
 
-// What a call will do: refuse with a number and change nothing, or a step.
-#[derive(Clone, Copy)]
-pub enum Plan {
-    Refuse(Refusal),
-    Go(Step),
-}
-
 // No part: nothing was lent.
+#[tactic(auto, unfolding(crate::specs::Steps::no_part))]
 pub fn no_part() -> Part
     ensures { result ≡ no_part }
 {
@@ -86,6 +79,7 @@ pub fn no_part() -> Part
 }
 
 // The message in the record's cell.
+#[tactic(auto, unfolding(crate::specs::Steps::cell_of))]
 fn cell_of(h: Holder) -> Part
     requires { h.place < records_bound }
     ensures { result ≡ cell_of h }
@@ -103,24 +97,20 @@ fn message_of(send: Send, h: Holder, c: Call) -> Part
     ensures { result ≡ message_of send h c }
 {
     match step_sending::source_of(send) {
-        step_sending::Source::Nothing => no_part(),
+        step_sending::Source::Nothing | step_sending::Source::Table => no_part(),
         step_sending::Source::Given => c.message,
         step_sending::Source::Cell => cell_of(h),
-        step_sending::Source::Table => no_part(),
     }
 }
 
+#[tactic(auto, unfolding(crate::specs::Steps::sender_of))]
 pub fn sender_of(turn: Turn, h: Holder, c: Call) -> Sender
     requires { h.place < records_bound }
     ensures { result ≡ sender_of turn h c }
 {
-    let send = turn.send;
-    let after = turn.after;
-    let role = h.role;
-    let message = message_of(send, h, c);
-    let exit_len = base_lists::size(after.exit_len);
+    let message = message_of(turn.send, h, c);
     Sender {
-        role: role,
+        role: h.role,
         tid: h.tid,
         class: h.class,
         user_ack: h.up,
@@ -128,16 +118,17 @@ pub fn sender_of(turn: Turn, h: Holder, c: Call) -> Sender
         start: message.start,
         len: message.len,
         exit_start: HEADER_SIZE + h.place * RECORD_SIZE + EXIT_OFFSET,
-        exit_len: exit_len,
-        unknown: after.unknown,
+        exit_len: usize::from(turn.after.exit_len),
+        unknown: turn.after.unknown,
     }
 }
 
+#[tactic(auto, unfolding(crate::specs::Steps::place_in))]
 fn place_in(source: step_shown::Source, part: Part) -> Place
     ensures { result ≡ place_in source part }
 {
     Place {
-        source: source,
+        source,
         start: part.start,
         len: part.len,
     }
@@ -148,22 +139,15 @@ pub fn context_of(h: Holder, c: Call) -> Context
     requires { h.place < records_bound }
     ensures { result ≡ context_of h c }
 {
-    let role = h.role;
-    let info = c.info;
-    let user = c.user;
-    let cell = cell_of(h);
-    let info_place = place_in(step_shown::Source::Datagram, info);
-    let user_place = place_in(step_shown::Source::Datagram, user);
-    let cell_place = place_in(step_shown::Source::Store, cell);
     Context {
-        role: role,
+        role: h.role,
         peer: h.peer,
         tid: h.tid,
         class: h.class,
         up: h.up,
-        info: info_place,
-        user: user_place,
-        cell: cell_place,
+        info: place_in(step_shown::Source::Datagram, c.info),
+        user: place_in(step_shown::Source::Datagram, c.user),
+        cell: place_in(step_shown::Source::Store, cell_of(h)),
     }
 }
 
@@ -171,10 +155,9 @@ pub fn context_of(h: Holder, c: Call) -> Context
 pub fn told_of(tells: Tells, h: Holder) -> Told
     ensures { result ≡ told_of_is tells h }
 {
-    let role = h.role;
     match tells {
         Tells::Nothing => Told::Nothing,
         Tells::Tid => Told::Tid(h.tid),
-        Tells::Record => Told::Fired(role, h.peer, h.tid),
+        Tells::Record => Told::Fired(h.role, h.peer, h.tid),
     }
 }

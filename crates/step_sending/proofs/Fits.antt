@@ -8,7 +8,7 @@ use mathlib.Core.Bool.{Bool, true, false}
 use lib.ListN.{length}
 use lib.Dec.{ltb, eqb}
 use Rattle.base_layout.specs.Layout.{exit_bound}
-use Rattle.base_numbers.specs.declared.Verdict.TheVariants.{Sound}
+use Rattle.std.specs.Prelude.{Ok}
 use Rattle.codec_pdu.specs.Pdu.{bare_of}
 use Rattle.codec_pdu.specs.declared.Kind.{Kind}
 use Rattle.codec_pdu.specs.declared.Kind.TheVariants as Kind
@@ -75,7 +75,7 @@ sent_fits s (Abort kind reason) by f = plain_fits (parts_in s by) _ by 0 0 (omeg
 
 -- at most two items, and no fault
 abbrev Right : Pdu → Type 0
-Right p = (p.count ≤ 16) × (fault_of p ≡ Sound)
+Right p = (p.count ≤ 16) × (fault_of p ≡ Ok tt)
 
 ack_right : (again known bare : Bool) (by : Sender) → Right (ack_pdu false again (ack_items known bare by) by)
 unfolding ack_pdu ack_items fault_of kind_fault rest_fault bare_of

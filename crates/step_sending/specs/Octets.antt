@@ -1,8 +1,7 @@
 -- The octets that are sent, written out (01, "Bytes on the air"), and what a sender owes for them.
-use Rattle.std.specs.Prelude.{ℕ, ◌+◌, ◌*◌, ◌/◌, ◌%◌, ◌≤◌, ◌<◌, ◌≡◌, List, [], ◌∷◌, Bool, true, false, length, ltb, eqb}
+use Rattle.std.specs.Prelude.{ℕ, ◌+◌, ◌*◌, ◌/◌, ◌%◌, ◌≤◌, ◌<◌, ◌≡◌, List, [], ◌∷◌, Bool, true, false, length, ltb, eqb, Ok}
 use Rattle.base_layout.specs.Layout.{exit_bound, cell_size, output_least}
 use Rattle.base_lists.specs.Seq.{pick, bit, part}
-use Rattle.base_numbers.specs.declared.Verdict.TheVariants.{Sound}
 use Rattle.codec_pdu.specs.declared.Pdu.{Pdu}
 use Rattle.codec_encoding.specs.Write.{Fit, fault_of, octets_of}
 use Rattle.row_columns.specs.declared.Send.{Send}
@@ -72,5 +71,5 @@ FitSend s (Abort kind reason) by = kind ≤ 1
 pub record Sendable (s : List ℕ) (p : Pdu) : Type 0 where
   pub fits : Fit s p
   pub items_listed : p.count ≤ 16
-  pub no_fault : fault_of p ≡ Sound
+  pub no_fault : fault_of p ≡ Ok tt
   pub room_enough : length (octets_of s p) ≤ output_least

@@ -37,22 +37,23 @@ pub enum Source {
     Table,
 }
 
+#[tactic(auto, unfolding(crate::specs::Sending::tid_of))]
 fn tid_of(by: Sender) -> SendTid
     ensures { result.0 ≡ tid_of by }
 {
-    let role = by.role;
-    table_record::send_tid(role, by.tid % base_layout::TID_COUNT)
+    by.role.send_tid(by.tid % base_layout::TID_COUNT)
 }
 
 // The first octet and the TID go to the output's start; the place after them.
+#[tactic(auto, unfolding(base_lists::specs::Seq::put))]
 fn put_head(out: &mut [u8], first: u8, by: Sender) -> usize
     requires { 3 ≤ length out.old }
     ensures { (result ≡ 3) × (out.new ≡ put out.old 0 (with_tid by first [])) }
 {
     let tid = tid_of(by);
     out[0] = first;
-    out[1] = base_tids::high(tid);
-    out[2] = base_tids::low(tid);
+    out[1] = tid.high();
+    out[2] = tid.low();
     3
 }
 
@@ -62,7 +63,7 @@ fn put_invoke(out: &mut [u8], src: &[u8], again: bool, by: Sender) -> usize
     requires output_least_in_bounds { output_least ≤ length out.old }
     ensures { (result ≡ length (octets_sent src.now (Invoke again) by)) × (out.new ≡ put out.old 0 (octets_sent src.now (Invoke again) by)) }
 {
-    put_head(&mut *out, 0x0E + base_lists::bit(again), by);
+    put_head(out, 0x0E + u8::from(again), by);
     out[3] = codec_encoding::invoke_octet(0, by.tidnew, by.user_ack, by.class);
     base_lists::copy(out, 4, src, by.start, by.len);
     4 + by.len
@@ -74,7 +75,7 @@ fn put_result(out: &mut [u8], src: &[u8], again: bool, by: Sender) -> usize
     requires output_least_in_bounds { output_least ≤ length out.old }
     ensures { (result ≡ length (octets_sent src.now (Result again) by)) × (out.new ≡ put out.old 0 (octets_sent src.now (Result again) by)) }
 {
-    put_head(&mut *out, 0x16 + base_lists::bit(again), by);
+    put_head(out, 0x16 + u8::from(again), by);
     base_lists::copy(out, 3, src, by.start, by.len);
     3 + by.len
 }
@@ -101,11 +102,11 @@ fn put_known_ack(out: &mut [u8], src: &[u8], again: bool, bare: bool, by: Sender
     requires output_least_in_bounds { output_least ≤ length out.old }
     ensures { (result ≡ length (ack_octets src.now again true bare by)) × (out.new ≡ put out.old 0 (ack_octets src.now again true bare by)) }
 {
-    let rid = base_lists::bit(again);
+    let rid = u8::from(again);
     if bare {
         put_head(out, 0x18 + rid, by)
     } else {
-        put_head(&mut *out, 0x98 + rid, by);
+        put_head(out, 0x98 + rid, by);
         put_exit(out, 3, src, by)
     }
 }
@@ -124,9 +125,9 @@ fn put_error_ack(out: &mut [u8], src: &[u8], again: bool, bare: bool, by: Sender
     requires output_least_in_bounds { output_least ≤ length out.old }
     ensures { (result ≡ length (ack_octets src.now again false bare by)) × (out.new ≡ put out.old 0 (ack_octets src.now again false bare by)) }
 {
-    put_head(&mut *out, 0x98 + base_lists::bit(again), by);
+    put_head(out, 0x98 + u8::from(again), by);
     let item = [error_head(bare), 0x10 + by.unknown];
-    base_lists::store(&mut *out, 3, &item);
+    base_lists::store(out, 3, &item);
     if bare { 5 } else { put_exit(out, 5, src, by) }
 }
 
@@ -143,11 +144,12 @@ fn put_ack(out: &mut [u8], src: &[u8], again: bool, bare: bool, by: Sender) -> u
     }
 }
 
+#[tactic(auto, unfolding(base_lists::specs::Seq::put))]
 fn put_abort(out: &mut [u8], abort_type: u8, reason: u8, by: Sender) -> usize
     requires { (abort_type ≤ 1) × (output_least ≤ length out.old) }
     ensures { (result ≡ 4) × (out.new ≡ put out.old 0 (with_tid by (0x20 + abort_type) (reason ∷ []))) }
 {
-    put_head(&mut *out, 0x20 + abort_type, by);
+    put_head(out, 0x20 + abort_type, by);
     out[3] = reason;
     4
 }
@@ -162,10 +164,10 @@ pub fn put_sent(out: &mut [u8], src: &[u8], send: Send, by: Sender) -> usize
     match send {
         Send::Nothing => 0,
         Send::Invoke(again) => put_invoke(out, src, again, by),
-        Send::Tidok(again) => put_head(out, 0x1C + base_lists::bit(again), by),
+        Send::Tidok(again) => put_head(out, 0x1C + u8::from(again), by),
         Send::LastAck(again) => put_ack(out, src, again, by.exit_len == 0, by),
         Send::HoldOn(again) => put_ack(out, src, again, true, by),
-        Send::Tidve(again) => put_head(out, 0x1C + base_lists::bit(again), by),
+        Send::Tidve(again) => put_head(out, 0x1C + u8::from(again), by),
         Send::Result(again) => put_result(out, src, again, by),
         Send::Abort(abort_type, reason) => put_abort(out, abort_type, reason, by),
     }
@@ -182,13 +184,8 @@ pub fn source_of(send: Send) -> Source
     ensures { result ≡ source_of send }
 {
     match send {
-        Send::Nothing => Source::Nothing,
-        Send::Invoke(again) => source_by(again),
-        Send::Tidok(_) => Source::Nothing,
+        Send::Invoke(again) | Send::Result(again) => source_by(again),
         Send::LastAck(_) => Source::Table,
-        Send::HoldOn(_) => Source::Nothing,
-        Send::Tidve(_) => Source::Nothing,
-        Send::Result(again) => source_by(again),
-        Send::Abort(_, _) => Source::Nothing,
+        _ => Source::Nothing,
     }
 }

@@ -3,11 +3,10 @@
 
 ghost use Rattle.std.specs.Prelude.{◌≡◌};
 ghost use Rattle.table_record.specs.Record.{role_number};
-ghost use Rattle.step_shown.specs.Shows.{no_data, invoke_place, confirm_place, shown_of, place_of};
+ghost use Rattle.step_shown.specs.Shows.{invoke_place, confirm_place, shown_of, place_of};
 ghost use Rattle.step_shown.specs.Words.{front_words, own_words, source_number, shown_words};
 ghost use Rattle.step_shown.specs.Parts.{fitting_part, data_of};
 
-use base_lists::flag;
 use row_columns::Indication;
 use table_record::Role;
 
@@ -69,26 +68,25 @@ pub struct Context {
     pub cell: Place,
 }
 
-fn no_data() -> Place
-    ensures { result ≡ no_data }
-{
-    Place {
-        source: Source::Datagram,
-        start: 0,
-        len: 0,
-    }
-}
+// An abort has no data, nor has a confirmation without an Ack.
+const NO_DATA: Place = Place {
+    source: Source::Datagram,
+    start: 0,
+    len: 0,
+};
 
+#[tactic(auto, unfolding(crate::specs::Shows::invoke_place))]
 fn invoke_place(verified: bool, c: Context) -> Place
     ensures { result ≡ invoke_place verified c }
 {
     if verified { c.cell } else { c.user }
 }
 
+#[tactic(auto, unfolding(crate::specs::Shows::confirm_place))]
 fn confirm_place(acked: bool, c: Context) -> Place
     ensures { result ≡ confirm_place acked c }
 {
-    if acked { c.info } else { no_data() }
+    if acked { c.info } else { NO_DATA }
 }
 
 // What the user is shown for an indication.
@@ -96,40 +94,32 @@ fn confirm_place(acked: bool, c: Context) -> Place
 pub fn shown_of(i: Indication, c: Context) -> Shown
     ensures { result ≡ shown_of i c }
 {
-    let role = c.role;
-    let user = c.user;
     match i {
         Indication::Nothing => Shown::Nothing,
-        Indication::Invoke(verified) => {
-            let place = invoke_place(verified, c);
-            Shown::Invoke {
-                peer: c.peer,
-                tid: c.tid,
-                class: c.class,
-                up: c.up,
-                place: place,
-            }
-        }
-        Indication::Confirm(acked) => {
-            let place = confirm_place(acked, c);
-            Shown::Confirm {
-                role: role,
-                peer: c.peer,
-                tid: c.tid,
-                place: place,
-            }
-        }
+        Indication::Invoke(verified) => Shown::Invoke {
+            peer: c.peer,
+            tid: c.tid,
+            class: c.class,
+            up: c.up,
+            place: invoke_place(verified, c),
+        },
+        Indication::Confirm(acked) => Shown::Confirm {
+            role: c.role,
+            peer: c.peer,
+            tid: c.tid,
+            place: confirm_place(acked, c),
+        },
         Indication::Result => Shown::Result {
             peer: c.peer,
             tid: c.tid,
-            place: user,
+            place: c.user,
         },
         Indication::Abort(abort_type, reason) => Shown::Abort {
-            role: role,
+            role: c.role,
             peer: c.peer,
             tid: c.tid,
-            abort_type: abort_type,
-            reason: reason,
+            abort_type,
+            reason,
         },
     }
 }
@@ -140,28 +130,22 @@ pub fn place_of(s: Shown) -> Place
     ensures { result ≡ place_of s }
 {
     match s {
-        Shown::Nothing => no_data(),
-        Shown::Invoke { place, .. } => place,
-        Shown::Confirm { place, .. } => place,
-        Shown::Result { place, .. } => place,
-        Shown::Abort { .. } => no_data(),
+        Shown::Invoke { place, .. } | Shown::Confirm { place, .. } | Shown::Result { place, .. } =>
+            place,
+        Shown::Nothing | Shown::Abort { .. } => NO_DATA,
     }
 }
 
 pub fn role_number(role: Role) -> u64
     ensures { result ≡ role_number role }
 {
-    match role {
-        Role::Initiator => 0,
-        Role::Responder => 1,
-    }
+    u64::from(role)
 }
 
 fn source_number(place: Place) -> u64
     ensures { result ≡ source_number place.source }
 {
-    let source = place.source;
-    match source {
+    match place.source {
         Source::Datagram => 0,
         Source::Store => 1,
     }
@@ -174,20 +158,20 @@ fn front_words(s: Shown) -> [u64; 4]
 {
     match s {
         Shown::Nothing => [0; 4],
-        Shown::Invoke { peer, tid, .. } => [1, 1, peer as u64, tid as u64],
+        Shown::Invoke { peer, tid, .. } => [1, 1, u64::from(peer), u64::from(tid)],
         Shown::Confirm {
             role,
             peer,
             tid,
             ..
-        } => [2, role_number(role), peer as u64, tid as u64],
-        Shown::Result { peer, tid, .. } => [3, 0, peer as u64, tid as u64],
+        } => [2, u64::from(role), u64::from(peer), u64::from(tid)],
+        Shown::Result { peer, tid, .. } => [3, 0, u64::from(peer), u64::from(tid)],
         Shown::Abort {
             role,
             peer,
             tid,
             ..
-        } => [4, role_number(role), peer as u64, tid as u64],
+        } => [4, u64::from(role), u64::from(peer), u64::from(tid)],
     }
 }
 
@@ -197,15 +181,13 @@ fn own_words(s: Shown) -> [u64; 4]
     ensures { result ≡ own_words s }
 {
     match s {
-        Shown::Nothing => [0; 4],
-        Shown::Invoke { class, up, .. } => [class as u64, flag(up), 0, 0],
-        Shown::Confirm { .. } => [0; 4],
-        Shown::Result { .. } => [0; 4],
+        Shown::Invoke { class, up, .. } => [u64::from(class), u64::from(up), 0, 0],
         Shown::Abort {
             abort_type,
             reason,
             ..
-        } => [0, 0, abort_type as u64, reason as u64],
+        } => [0, 0, u64::from(abort_type), u64::from(reason)],
+        _ => [0; 4],
     }
 }
 
@@ -237,14 +219,10 @@ pub fn words_of(s: Shown) -> [u64; 12]
 fn fitting_part(s: &[u8], start: usize, len: usize) -> &[u8]
     ensures { result.now ≡ fitting_part s.now start len }
 {
-    if start <= s.len() {
-        if len <= s.len() - start {
-            &s[start..start + len]
-        } else {
-            &s[..0]
-        }
+    if start <= s.len() && len <= s.len() - start {
+        &s[start..start + len]
     } else {
-        &s[..0]
+        &[]
     }
 }
 
@@ -253,8 +231,7 @@ fn fitting_part(s: &[u8], start: usize, len: usize) -> &[u8]
 pub fn data_of<'a>(datagram: &'a [u8], store: &'a [u8], place: Place) -> &'a [u8]
     ensures { result.now ≡ data_of datagram.now store.now place }
 {
-    let source = place.source;
-    match source {
+    match place.source {
         Source::Datagram => fitting_part(datagram, place.start, place.len),
         Source::Store => fitting_part(store, place.start, place.len),
     }

@@ -100,13 +100,13 @@ pub fn wtp_request(
     ensures { called result table.new store.new out.new answer.new ≡ called_by (Call.Request time peer class (ltb 0 user_ack)) (lent table.old store.old out.old user.now []) answer.old }
 {
     if too_few(answer) {
-        return base_numbers::number(Refusal::WrongSize);
+        return u64::from(Refusal::WrongSize);
     }
     let r = call_engine::request(
         table,
         store,
         out,
-        &mut *answer,
+        answer,
         time,
         peer,
         class,
@@ -131,9 +131,9 @@ pub fn wtp_answer(
     ensures { called result table.new store.new out.new answer.new ≡ called_by (Call.Answer time role peer tid) (lent table.old store.old out.old [] exit.now) answer.old }
 {
     if too_few(answer) {
-        return base_numbers::number(Refusal::WrongSize);
+        return u64::from(Refusal::WrongSize);
     }
-    let r = call_engine::answer(table, store, out, &mut *answer, time, role, peer, tid, exit);
+    let r = call_engine::answer(table, store, out, answer, time, role, peer, tid, exit);
     c_answers::tell(answer, r, step_arrivals::no_item())
 }
 
@@ -152,9 +152,9 @@ pub fn wtp_result(
     ensures { called result table.new store.new out.new answer.new ≡ called_by (Call.Result time role peer tid) (lent table.old store.old out.old user.now []) answer.old }
 {
     if too_few(answer) {
-        return base_numbers::number(Refusal::WrongSize);
+        return u64::from(Refusal::WrongSize);
     }
-    let r = call_engine::result(table, store, out, &mut *answer, time, role, peer, tid, user);
+    let r = call_engine::result(table, store, out, answer, time, role, peer, tid, user);
     c_answers::tell(answer, r, step_arrivals::no_item())
 }
 
@@ -173,19 +173,9 @@ pub fn wtp_abort(
     ensures { called result table.new store.new out.new answer.new ≡ called_by (Call.Abort time role peer tid reason) (lent table.old store.old out.old [] []) answer.old }
 {
     if too_few(answer) {
-        return base_numbers::number(Refusal::WrongSize);
+        return u64::from(Refusal::WrongSize);
     }
-    let r = call_engine::abort(
-        table,
-        store,
-        out,
-        &mut *answer,
-        time,
-        role,
-        peer,
-        tid,
-        reason,
-    );
+    let r = call_engine::abort(table, store, out, answer, time, role, peer, tid, reason);
     c_answers::tell(answer, r, step_arrivals::no_item())
 }
 
@@ -202,9 +192,9 @@ pub fn wtp_receive(
     ensures { called result table.new store.new out.new answer.new ≡ called_by (Call.Receive time peer) (lent table.old store.old out.old octets.now []) answer.old }
 {
     if too_few(answer) {
-        return base_numbers::number(Refusal::WrongSize);
+        return u64::from(Refusal::WrongSize);
     }
-    let r = call_engine::receive(table, store, out, &mut *answer, time, peer, octets);
+    let r = call_engine::receive(table, store, out, answer, time, peer, octets);
     let item = step_arrivals::unknown_item(octets);
     c_answers::tell(answer, r, item)
 }
@@ -220,9 +210,9 @@ pub fn wtp_timer(
     ensures { called result table.new store.new out.new answer.new ≡ called_by (Call.Timer time) (lent table.old store.old out.old [] []) answer.old }
 {
     if too_few(answer) {
-        return base_numbers::number(Refusal::WrongSize);
+        return u64::from(Refusal::WrongSize);
     }
-    let r = call_engine::timer(table, store, out, &mut *answer, time);
+    let r = call_engine::timer(table, store, out, answer, time);
     c_answers::tell(answer, r, step_arrivals::no_item())
 }
 
@@ -247,9 +237,9 @@ pub fn wtp_fire(
     ensures { called result table.new store.new out.new answer.new ≡ called_by (Call.Fire time role peer tid) (lent table.old store.old out.old [] []) answer.old }
 {
     if too_few(answer) {
-        return base_numbers::number(Refusal::WrongSize);
+        return u64::from(Refusal::WrongSize);
     }
-    let r = call_engine::fire_named(table, store, out, &mut *answer, time, role, peer, tid);
+    let r = call_engine::fire_named(table, store, out, answer, time, role, peer, tid);
     c_answers::tell(answer, r, step_arrivals::no_item())
 }
 

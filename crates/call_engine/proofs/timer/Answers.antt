@@ -12,36 +12,36 @@ use Rattle.call_engine.proofs.Fired.{refuses, enters, fires, rests, whole}
 use Rattle.call_engine.proofs.timer.Goals as goal
 
 pub records-requires : goal.records-requires
-records-requires c = has_header _ (enters c.args.table.now (length c.args.store.now) (length c.args.output.now) c.args.time _ c.entry.ensures c.in-Accept.is).fitting.formed
+records-requires c = has_header _ (enters c.args.table.now (length c.args.store.now) (length c.args.output.now) c.args.time _ c.entry.ensures c.in-Ok.is).fitting.formed
 
 pub due-requires : goal.due-requires
-due-requires c = has_records _ _ (enters c.args.table.now (length c.args.store.now) (length c.args.output.now) c.args.time _ c.entry.ensures c.in-Accept.is).fitting.formed c.records.ensures
+due-requires c = has_records _ _ (enters c.args.table.now (length c.args.store.now) (length c.args.output.now) c.args.time _ c.entry.ensures c.in-Ok.is).fitting.formed c.records.ensures
 
 pub fire-requires-clause-ready : goal.fire-requires-clause-ready
 fire-requires-clause-ready c =
     let l = lent c.args.table.now c.args.store.now c.args.output.now [] [] in
     let sound = call_sound (Call.Timer c.args.time) l (refl, refl) in
-    goes_ready l _ _ (fires c.args.table.now (length c.args.store.now) (length c.args.output.now) c.args.time _ c.entry.ensures c.in-Accept.is _ _ c.records.ensures c.due.ensures _ c.in-At.is) (sound_ready _ _ sound)
+    goes_ready l _ _ (fires c.args.table.now (length c.args.store.now) (length c.args.output.now) c.args.time _ c.entry.ensures c.in-Ok.is _ _ c.records.ensures c.due.ensures _ c.in-Some.is) (sound_ready _ _ sound)
 
 pub fire-requires-clause-record_size_in_bounds : goal.fire-requires-clause-record_size_in_bounds
 fire-requires-clause-record_size_in_bounds c =
-    let w = whole c.args.table.now (length c.args.store.now) (length c.args.output.now) c.args.time _ c.entry.ensures c.in-Accept.is _ _ c.records.ensures c.due.ensures _ c.in-At.is in
-    (w.there, w.small, w.tid, (enters c.args.table.now (length c.args.store.now) (length c.args.output.now) c.args.time _ c.entry.ensures c.in-Accept.is).bounded)
+    let w = whole c.args.table.now (length c.args.store.now) (length c.args.output.now) c.args.time _ c.entry.ensures c.in-Ok.is _ _ c.records.ensures c.due.ensures _ c.in-Some.is in
+    (w.there, w.small, w.tid, (enters c.args.table.now (length c.args.store.now) (length c.args.output.now) c.args.time _ c.entry.ensures c.in-Ok.is).bounded)
 
 pub idle-requires : goal.idle-requires
-idle-requires c = (has_header _ (enters c.args.table.now (length c.args.store.now) (length c.args.output.now) c.args.time _ c.entry.ensures c.in-Accept.is).fitting.formed, c.requires)
+idle-requires c = (has_header _ (enters c.args.table.now (length c.args.store.now) (length c.args.output.now) c.args.time _ c.entry.ensures c.in-Ok.is).fitting.formed, c.requires)
 
-pub returns-in-Refuse : goal.returns-in-Refuse
-returns-in-Refuse c =
+pub returns-in-Err : goal.returns-in-Err
+returns-in-Err c =
     let l = lent c.args.table.now c.args.store.now c.args.output.now [] [] in
-    refused_so l _ _ _ _ c.number.ensures (refuses c.args.table.now (length c.args.store.now) (length c.args.output.now) c.args.time _ c.entry.ensures _ c.in-Refuse.is)
+    refused_so l _ _ _ _ c.from.ensures (refuses c.args.table.now (length c.args.store.now) (length c.args.output.now) c.args.time _ c.entry.ensures _ c.in-Err.is)
 
-pub returns-in-At : goal.returns-in-At
-returns-in-At c =
+pub returns-in-Some : goal.returns-in-Some
+returns-in-Some c =
     let l = lent c.args.table.now c.args.store.now c.args.output.now [] [] in
-    gone_so l _ _ _ _ (fires c.args.table.now (length c.args.store.now) (length c.args.output.now) c.args.time _ c.entry.ensures c.in-Accept.is _ _ c.records.ensures c.due.ensures _ c.in-At.is) c.fire.ensures
+    gone_so l _ _ _ _ (fires c.args.table.now (length c.args.store.now) (length c.args.output.now) c.args.time _ c.entry.ensures c.in-Ok.is _ _ c.records.ensures c.due.ensures _ c.in-Some.is) c.fire.ensures
 
-pub returns-in-Nothing : goal.returns-in-Nothing
-returns-in-Nothing c =
+pub returns-in-None : goal.returns-in-None
+returns-in-None c =
     let l = lent c.args.table.now c.args.store.now c.args.output.now [] [] in
-    gone_so l _ _ _ _ (rests c.args.table.now (length c.args.store.now) (length c.args.output.now) c.args.time _ c.entry.ensures c.in-Accept.is _ _ c.records.ensures c.due.ensures c.in-Nothing.is) (idle_so l _ _ _ _ _ c.idle.ensures)
+    gone_so l _ _ _ _ (rests c.args.table.now (length c.args.store.now) (length c.args.output.now) c.args.time _ c.entry.ensures c.in-Ok.is _ _ c.records.ensures c.due.ensures c.in-None.is) (idle_so l _ _ _ _ _ c.idle.ensures)

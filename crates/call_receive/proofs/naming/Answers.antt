@@ -11,4 +11,4 @@ tid_of-rcv-requires c = (named_aimed _ _ _ c.requires.s_value).0
 
 pub taken-requires : goal.taken-requires
 taken-requires c =
-    (named_whole _ c.requires.well_formed _ _ _ _ _ _ refl (named_by_tid _ _ c.requires.well_formed _ _ _ c.requires.s_value _ _ _ c.tid_of-rcv.ensures (search (rules, c.tid_of-rcv.type_inv)) c.records.ensures c.receiver.ensures) c.in-At.is).there
+    (named_whole _ c.requires.well_formed _ _ _ _ _ _ refl (named_by_tid _ _ c.requires.well_formed _ _ _ c.requires.s_value _ _ _ c.tid_of-rcv.ensures (search (rules, c.tid_of-rcv.type_inv)) c.records.ensures c.receiver.ensures) c.in-Some.is).there

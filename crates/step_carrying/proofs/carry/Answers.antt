@@ -19,4 +19,4 @@ give-requires c =
 
 pub returns : goal.returns
 returns c =
-    given_so _ _ _ _ _ c.record_for-r.ensures _ c.turn_for-turn.ensures _ c.holder_for-h.ensures _ c.changes_for-changes.ensures _ _ _ _ _ _ _ _ c.change_cost-cost.ensures c.report.ensures c.carry_out-sent.ensures c.give.ensures
+    given_so _ _ _ _ _ c.record_for-r.ensures _ c.turn_for-turn.ensures _ c.holder_for-h.ensures _ c.changes_for-changes.ensures _ _ _ _ _ _ _ _ c.change_cost.ensures c.report.ensures c.carry_out-sent.ensures c.give.ensures

@@ -7,4 +7,4 @@ use Rattle.step_carrying.proofs.idle.Goals as goal
 
 pub returns : goal.returns
 unfolding idle_words answer_words head_words record_words shown_words front_words own_words place_of
-returns c = (refl, c.put_clock.ensures, rw (c.report.ensures, c.no_cost.ensures) at c.store_words.ensures)
+returns c = (refl, c.put_clock.ensures, rw (c.report.ensures, c.no_cost.ensures) at c.store.ensures)

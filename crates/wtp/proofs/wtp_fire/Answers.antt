@@ -4,7 +4,7 @@ use Rattle.wtp.proofs.Handing.{refused_small, told_over}
 use Rattle.wtp.proofs.wtp_fire.Goals as goal
 
 pub returns-then-too_few : goal.returns-then-too_few
-returns-then-too_few c = refused_small _ _ c.too_few.ensures _ _ _ c.if-too_few.true _ c.number.ensures
+returns-then-too_few c = refused_small _ _ c.too_few.ensures _ _ _ c.if-too_few.true _ c.from.ensures
 
 pub returns : goal.returns
 unfolding item_told
