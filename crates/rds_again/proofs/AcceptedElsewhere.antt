@@ -3,6 +3,7 @@ use Prim.Native.Nat.{ℕ, ◌+◌, ◌%◌, ◌<◌, ◌≤◌}
 use native.Mathlib.Omega.{arith}
 use mathlib.Core.Path.{◌≡◌, refl, sym, ap, subst, ◌∙◌}
 use mathlib.Core.List.{List, [], ◌++◌, map, append_assoc}
+use Rattle.std.specs.Prelude.{Some, is_some}
 use mathlib.Core.Bool.{Bool, true, false}
 use lib.ListN.{length, get_or, length-append, get_or-map}
 use lib.Dec.{ltb, eqb}
@@ -11,17 +12,16 @@ use Rattle.base_lists.specs.Seq.{pick, bit}
 use Rattle.base_lists.proofs.StoresAndParts.{every_all, length_tab}
 use Rattle.rds_frame.specs.declared.Kind.{Kind}
 use Rattle.rds_frame.specs.declared.Head.{Head}
-use Rattle.rds_frame.specs.Frame.{head_of}
 use Rattle.rds_entries.specs.declared.Entry.{Entry}
 use Rattle.rds_entries.specs.Entries.{no_entry}
 use Rattle.rds_body.specs.declared.Body.{Body}
 use Rattle.rds_body.specs.declared.Body.TheVariants as B
 use Rattle.rds_body.specs.declared.Managed.{Managed}
 use Rattle.rds_reading.specs.declared.Frame.{Frame}
-use Rattle.rds_reading.specs.Read.{body_after, frame_of, sound_body}
+use Rattle.rds_reading.specs.Read.{frame_of}
 use Rattle.rds_words.specs.Words.{kind_words, head_words, body_words, list_words, words_of}
 use Rattle.rds_size.specs.Size.{entries_size, list_size, body_size}
-use Rattle.rds_said.specs.Said.{head_said, body_said, entry_said, list_said, entries_said, frame_said}
+use Rattle.rds_said.specs.Said.{head_said, body_said, entry_said, list_said, entries_said, frame_with, frame_after, frame_said}
 use Rattle.rds_writing.specs.Write.{same_words, is_items, size_of, accepts}
 use Rattle.rds_writing.proofs.Own.{length_kind_words}
 use Rattle.rds_writing.proofs.Said.{said_full}
@@ -56,9 +56,8 @@ module _ (s f : List ℕ) (k : Kind) (e p d : ℕ) (g h : List Entry) (alike : m
   entries_said_holds x (B.Information a l) q = step (body_words (B.Information x l)) (body_words (B.Information a l)) refl refl false 0 q
   entries_said_holds x (B.Asking n c i a l o) q = step (body_words (B.Asking n c i x l o)) (body_words (B.Asking n c i a l o)) refl refl false 0 q
   entries_said_holds x (B.Answer n o t) q = step (body_words (B.Answer n o t)) (body_words (B.Answer n o t)) refl refl false 0 q
-  entries_said_holds x (B.Query n o c) q = step (body_words (B.Query n o c)) (body_words (B.Query n o c)) refl refl false 0 q
-  entries_said_holds x (B.List n o c i) q = step (body_words (B.List n o c i)) (body_words (B.List n o c i)) refl refl (ltb 5 n) i q
-  entries_said_holds x B.Wrong q = step (body_words B.Wrong) (body_words B.Wrong) refl refl false 0 q
+  entries_said_holds x (B.Query n c) q = step (body_words (B.Query n c)) (body_words (B.Query n c)) refl refl false 0 q
+  entries_said_holds x (B.List n c i) q = step (body_words (B.List n c i)) (body_words (B.List n c i)) refl refl (ltb 5 n) i q
 
   module _ (full : length h ≡ 15) (insides : (j : ℕ) → j < 15 → (get_or g j no_entry).start + (get_or g j no_entry).len ≤ length s) (same : map (entry_part s) g ≡ map (entry_part f) h) where
     lens : (j : ℕ) → (get_or g j no_entry).len ≡ (get_or h j no_entry).len
@@ -83,32 +82,31 @@ module _ (s f : List ℕ) (k : Kind) (e p d : ℕ) (g h : List Entry) (alike : m
     body_small items x (B.Information a l) i m q = information_elsewhere s f x a l items i m q
     body_small items x (B.Asking n c j a l o) i m q = asking_elsewhere s f n x a l i m q
     body_small items x (B.Answer n o t) i m q = q
-    body_small items x (B.Query n o c) i m q = q
-    body_small items x (B.List n o c j) i m q = list_small n o j q
-    body_small items x B.Wrong i m q = q
+    body_small items x (B.Query n c) i m q = q
+    body_small items x (B.List n c j) i m q = list_small n (is_some c) j q
 
 -- PROMISE 2, the words of g, which is the sound frame in f, starts aside
-module _ (f : List ℕ) (network : Bool) (octet : (i : ℕ) → get_or f i 0 < 256) (sound : sound_body (frame_of f network).body ≡ true) (s : List ℕ) (g : Frame) (x : Elsewhere s g f (frame_of f network)) where
+module _ (f : List ℕ) (network : Bool) (octet : (i : ℕ) → get_or f i 0 < 256) (G : Frame) (sound : frame_of f network ≡ Some G) (s : List ℕ) (g : Frame) (x : Elsewhere s g f G) where
   abbrev h : Head
-  h = head_of f network
+  h = G.head
 
   abbrev m : Managed
-  m = body_after f h
+  m = record { body = G.body; list = G.list }
 
   -- the words of g, its head as f has it
   abbrev words : List ℕ
   words = kind_words h.kind (bit h.ads) h.source h.destination ++ (body_words g.body ++ list_words g.list)
 
   head_alike : unplaced_head g.head ≡ unplaced_head h
-  unfolding unplaced frame_of
+  unfolding unplaced
   head_alike = ap (λ (z : Frame). z.head) x.alike
 
   body_placed : g.body ≡ place (start_of g.body) m.body
-  unfolding unplaced frame_of
+  unfolding unplaced
   body_placed = placed g.body m.body (ap (λ (z : Frame). z.body) x.alike)
 
   list_alike : map unplaced_entry g.list ≡ map unplaced_entry m.list
-  unfolding unplaced frame_of
+  unfolding unplaced
   list_alike = ap (λ (z : Frame). z.list) x.alike
 
   words_are : words_of g ≡ words
@@ -116,13 +114,13 @@ module _ (f : List ℕ) (network : Bool) (octet : (i : ℕ) → get_or f i 0 < 2
   words_are = ap (λ (z : Head). kind_words z.kind (bit z.ads) z.source z.destination ++ (body_words g.body ++ list_words g.list)) head_alike
 
   was : Kept f h.kind h.ads (bit h.ads) h.source h.destination m
-  was = kept f network octet sound
+  was = kept f network octet G sound
 
-  body_is : body_said words h.ads h.kind ≡ g.body
+  body_is : body_said words h.ads h.kind ≡ Some g.body
   body_is =
       ap (λ (b : Body). body_said (kind_words h.kind (bit h.ads) h.source h.destination ++ (body_words b ++ list_words g.list)) h.ads h.kind) body_placed
       ∙ body_elsewhere h.kind (bit h.ads) h.source h.destination (list_words g.list) (list_words m.list) h.ads (start_of g.body) m.body was.said
-      ∙ sym body_placed
+      ∙ ap Some (sym body_placed)
 
   list_is : entries_said words g.body ≡ g.list
   list_is =
@@ -130,24 +128,18 @@ module _ (f : List ℕ) (network : Bool) (octet : (i : ℕ) → get_or f i 0 < 2
       ∙ entries_said_holds s f h.kind (bit h.ads) h.source h.destination g.list m.list list_alike x.none (start_of g.body) m.body was.listed
 
   -- they say g
-  pub elsewhere_said : frame_said (words_of g) ≡ unended g
+  pub elsewhere_said : frame_said (words_of g) ≡ Some (unended g)
   unfolding frame_said
-  elsewhere_said = ap frame_said words_are ∙ said where
-    hs : head_said words ≡ unplaced_head h
-    hs = head_said_holds h.kind h.ads h.source h.destination (head_was f network octet sound).narrow_kind (head_was f network octet sound).narrow_head (body_words g.body ++ list_words g.list)
-
-    bs : body_said words (head_said words).ads (head_said words).kind ≡ g.body
-    bs = ap (λ (z : Head). body_said words z.ads z.kind) hs ∙ body_is
-
-    said : frame_said words ≡ unended g
-    said = λ i. record { head = (hs ∙ sym head_alike) i; body = bs i; list = (ap (entries_said words) bs ∙ list_is) i }
+  elsewhere_said =
+      let u : Head = unplaced_head h in
+      let hs : head_said words ≡ Some u = head_said_holds h.kind h.ads h.source h.destination (head_was f network octet G sound).narrow_kind (head_was f network octet G sound).narrow_head (body_words g.body ++ list_words g.list) in
+      ap frame_said words_are ∙ ap (frame_after words) hs ∙ ap (frame_with words u) body_is
+      ∙ (λ i. Some (record { head = sym head_alike i; body = g.body; list = list_is i }))
 
   full : length m.list ≡ 15
-  unfolding frame_of
-  full = ap (λ (z : Frame). length z.list) (sym (words_say f network octet sound)) ∙ said_full (words_of (frame_of f network))
+  full = said_full (words_of G) (unended G) (words_say f network octet G sound)
 
   small : size_of s (unended g) ≤ 1520
-  unfolding frame_of
   small =
       let part_in : PartInside s (place (start_of g.body) m.body) = subst (PartInside s) body_placed x.inside in
       let part_same : body_part s (place (start_of g.body) m.body) ≡ body_part f m.body = ap (body_part s) (sym body_placed) ∙ x.same_part in
@@ -161,6 +153,6 @@ module _ (f : List ℕ) (network : Bool) (octet : (i : ℕ) → get_or f i 0 < 2
   same_words_holds = every_all (λ i. eqb (get_or (words_of (unended g)) i 0) (get_or (words_of g) i 0)) 100 (λ i l. eq-eqb (get_or (words_of (unended g)) i 0) (get_or (words_of g) i 0) refl)
 
   -- and are accepted
-  pub elsewhere_accepted : accepts (words_of g) s (frame_said (words_of g)) ≡ true
+  pub elsewhere_accepted : accepts (words_of g) s (unended g) ≡ true
   unfolding accepts
-  elsewhere_accepted = rw (elsewhere_said, same_words_holds) (le-leb (size_of s (unended g)) 1520 small)
+  elsewhere_accepted = rw same_words_holds (le-leb (size_of s (unended g)) 1520 small)

@@ -10,7 +10,7 @@ use lib.Seq.{drop-drop, get_or-drop, ext_get_or}
 use lib.Dec.{ltb, eqb}
 use borrow.Author.Tests.{eqb-true, lt-ltb, le-ltb}
 use Rattle.base_lists.specs.Seq.{pick, tab}
-use Rattle.base_lists.proofs.StoresAndParts.{true_false, length_tab, get_tab, lt_or_le, total_same}
+use Rattle.base_lists.proofs.StoresAndParts.{length_tab, get_tab, lt_or_le, total_same}
 use Rattle.rds_frame.specs.declared.Kind.TheVariants as K
 use Rattle.rds_entries.specs.declared.Entry.{Entry}
 use Rattle.rds_entries.specs.declared.Entries.{Entries}
@@ -18,15 +18,14 @@ use Rattle.rds_entries.specs.Entries.{no_entry, walk_from}
 use Rattle.rds_entries.proofs.Walked.{walk_inside}
 use Rattle.rds_body.specs.declared.Body.TheVariants as B
 use Rattle.rds_body.specs.declared.Form.TheVariants as F
-use Rattle.rds_body.specs.declared.Optional.TheVariants.{Missing, There, Wrong}
-use Rattle.rds_body.specs.Body.{form_of, bitmap_of, optional_of, no_list, list_by, list_of}
-use Rattle.rds_reading.specs.Read.{sound_body}
+use Rattle.std.specs.Prelude.{Option, Some, None, is_some}
+use Rattle.rds_written.proofs.Forms.{Bitmap}
+use Rattle.rds_body.specs.Body.{form_of, bitmap_of, optional_of, list_by, list_after, list_of}
 use Rattle.rds_words.specs.Words.{kind_words, body_words, entry_words, list_words}
 use Rattle.rds_size.specs.Size.{entry_size, entries_size, list_size, body_size}
 use Rattle.rds_said.specs.Said.{word, format_said, manage_said, u_said, body_said, entry_said, list_said, entries_said}
 use Rattle.rds_writing.specs.Write.{is_items}
-use Rattle.rds_written.proofs.Headers.{bit_said}
-use Rattle.rds_again.proofs.Plain.{Kept, ports_again}
+use Rattle.rds_again.proofs.Plain.{Each, Kept, ports_again}
 use Rattle.rds_again.proofs.Stored.{word_at}
 use Rattle.rds_again.proofs.Walked.{Good, Found, walk_found}
 
@@ -69,17 +68,17 @@ module _ (front : List ℕ) (l : List Entry) (f24 : length front ≡ 24) (full :
         at i below (inl h) = entry_said_holds i below h s (good i h)
         at i below (inr h) = none_said i h ∙ sym (none i h below)
 
-module _ (s : List ℕ) (e p d : ℕ) (response : Bool) (a : ℕ) (ha : a < 16) (form : form_of a response ≡ F.List) where
-  list_kept : (some : Bool) (x y n : ℕ) (l : List Entry) → x ≡ y * 2 → x < 65536 → (some ≡ false → x ≡ 0) → n ≤ 15 → length l ≡ 15
-      → ((i : ℕ) → i < n → Good s (ltb 5 a) (get_or l i no_entry)) → ((i : ℕ) → n ≤ i → i < 15 → get_or l i no_entry ≡ no_entry) → list_size s l a some n ≤ 1520
-      → Kept s (K.U 10 response) false e p d (record { body = B.List a some x n; list = l })
+module _ (s : List ℕ) (e p d : ℕ) (response : Bool) (a : ℕ) (ha : a < 16) (form : form_of a response ≡ Some F.List) where
+  list_kept : (ports : Option ℕ) (n : ℕ) (l : List Entry) → Bitmap ports → n ≤ 15 → length l ≡ 15
+      → ((i : ℕ) → i < n → Good s (ltb 5 a) (get_or l i no_entry)) → ((i : ℕ) → n ≤ i → i < 15 → get_or l i no_entry ≡ no_entry) → list_size s l a (is_some ports) n ≤ 1520
+      → Kept s (K.U 10 response) false e p d (record { body = B.List a ports n; list = l })
   unfolding kind_words body_words body_said entries_said body_size is_items u_said manage_said
-  list_kept some x y n l ex hx nx n15 full good none size =
+  list_kept ports n l even n15 full good none size =
       let za : a % 16 ≡ a = omega (arith, ha) in
       let zn : n % 16 ≡ n = omega (arith, n15) in
       record {
-        said = rw (za, form) (λ i. B.List a (bit_said some i) (ports_again some x y ex hx nx i) (zn i));
-        listed = list_said_holds (kind_words (K.U 10 response) e p d ++ body_words (B.List a some x n)) l refl full (ltb 5 a) n s good none;
+        said = rw (za, form) (λ i. Some (B.List a (ports_again ports even i) (zn i)));
+        listed = list_said_holds (kind_words (K.U 10 response) e p d ++ body_words (B.List a ports n)) l refl full (ltb 5 a) n s good none;
         small = size;
       }
 
@@ -90,20 +89,27 @@ module _ (s : List ℕ) (e p d : ℕ) (response : Bool) (a : ℕ) (ha : a < 16) 
     abbrev f : Bool
     f = ltb 5 a
 
-    abbrev R : Entries
-    R = walk_from n 0 f (at + 1) (drop 1 t) (replicate 15 no_entry)
-
-    abbrev u : List ℕ
-    u = drop (R.end - at) t
+    abbrev walk : Option Entries
+    walk = walk_from n 0 f (at + 1) (drop 1 t) (replicate 15 no_entry)
 
     n15 : n ≤ 15
     n15 = omega (arith, o) where
       o : get_or t 0 0 < 256
       o = rw (here, get_or-drop at s 0 0) (octet (at + 0))
 
-    module _ (whole : R.whole ≡ true) where
+    octet_t : (i : ℕ) → get_or t i 0 < 256
+    octet_t i = rw (here, get_or-drop at s i 0) (octet (at + i))
+
+    module _ (R : Entries) (got : walk ≡ Some R) where
+      -- what follows the entries
+      abbrev u : List ℕ
+      u = drop (R.end - at) t
+
+      octet_u : (i : ℕ) → get_or u i 0 < 256
+      octet_u i = rw (get_or-drop (R.end - at) t i 0) (octet_t (R.end - at + i))
+
       found : Found s octet f n 0 (at + 1) (replicate 15 no_entry) R
-      found = walk_found s octet f n 0 (at + 1) (drop 1 t) (replicate 15 no_entry) (ap (drop 1) here ∙ drop-drop 1 at s) (omega (arith, n15, length-replicate 15 no_entry)) whole
+      found = walk_found s octet f n 0 (at + 1) (drop 1 t) (replicate 15 no_entry) R (ap (drop 1) here ∙ drop-drop 1 at s) (omega (arith, n15, length-replicate 15 no_entry)) got
 
       full : length R.list ≡ 15
       full = found.full ∙ length-replicate 15 no_entry
@@ -122,7 +128,7 @@ module _ (s : List ℕ) (e p d : ℕ) (response : Bool) (a : ℕ) (ha : a < 16) 
           omega (arith, same, found.size)
 
       within : R.end ≤ at + 1 + length (drop 1 t)
-      within = (walk_inside n 0 f (at + 1) (drop 1 t) (replicate 15 no_entry) whole).1
+      within = (walk_inside n 0 f (at + 1) (drop 1 t) (replicate 15 no_entry) R got).1
 
       zn : n % 16 ≡ n
       zn = omega (arith, n15)
@@ -135,20 +141,14 @@ module _ (s : List ℕ) (e p d : ℕ) (response : Bool) (a : ℕ) (ha : a < 16) 
       unfolding list_size
       with_ports two = rw zn (omega (arith, sum, within, two, length-drop (R.end - at) t, short))
 
-    octet_t : (i : ℕ) → get_or t i 0 < 256
-    octet_t i = rw (here, get_or-drop at s i 0) (octet (at + i))
+      by_ports : (b0 b2 : Bool) → eqb (length u) 2 ≡ b2 → Each (Kept s (K.U 10 response) false e p d) (list_by a n R.list (pick b0 (Some None) (pick b2 (Some (Some (bitmap_of u))) None)))
+      by_ports true b2 q = list_kept None n R.list tt n15 full good none without
+      by_ports false true q = list_kept (Some (bitmap_of u)) n R.list (omega arith, omega (arith, octet_u 0, octet_u 1)) n15 full good none (with_ports (eqb-true (length u) 2 q))
+      by_ports false false q = tt
 
-    octet_u : (i : ℕ) → get_or u i 0 < 256
-    octet_u i = rw (get_or-drop (R.end - at) t i 0) (octet_t (R.end - at + i))
-
-    pub list_read : sound_body (list_of t at a).body ≡ true → Kept s (K.U 10 response) false e p d (list_of t at a)
-    unfolding list_of optional_of no_list
-    list_read = go R.whole refl (eqb (length u) 0) (eqb (length u) 2) refl where
-      go : (w : Bool) → R.whole ≡ w → (b0 b2 : Bool) → eqb (length u) 2 ≡ b2
-          → sound_body (pick w (list_by a n R (pick b0 Missing (pick b2 (There (bitmap_of u)) Wrong))) (no_list B.Wrong)).body ≡ true
-          → Kept s (K.U 10 response) false e p d (pick w (list_by a n R (pick b0 Missing (pick b2 (There (bitmap_of u)) Wrong))) (no_list B.Wrong))
-      go false p b0 b2 q h = true_false (sym h)
-      go true p true b2 q h = list_kept false 0 0 n R.list refl (omega arith) (λ z. refl) n15 (full p) (good p) (none p) (without p)
-      go true p false true q h =
-          list_kept true (bitmap_of u) (get_or u 0 0 / 2 + get_or u 1 0 * 128) n R.list (omega arith) (omega (arith, octet_u 0, octet_u 1)) (λ z. true_false z) n15 (full p) (good p) (none p) (with_ports p (eqb-true (length u) 2 q))
-      go true p false false q h = true_false (sym h)
+    pub list_read : Each (Kept s (K.U 10 response) false e p d) (list_of t at a)
+    unfolding list_of optional_of
+    list_read = go walk refl where
+      go : (w : Option Entries) → walk ≡ w → Each (Kept s (K.U 10 response) false e p d) (list_after t at a w)
+      go None q = tt
+      go (Some R) q = by_ports R q (eqb (length (u R q)) 0) (eqb (length (u R q)) 2) refl

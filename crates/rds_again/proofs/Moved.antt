@@ -2,6 +2,8 @@
 use Prim.Native.Nat.{ℕ, ◌+◌, ◌%◌}
 use mathlib.Core.Path.{◌≡◌, refl, sym, ap, ◌∙◌}
 use mathlib.Core.List.{List, [], ◌∷◌, ◌++◌}
+use Rattle.std.specs.Prelude.{Option, Some, None}
+use Rattle.std.specs.Option.{option_map}
 use mathlib.Core.Bool.{Bool, true, false}
 use lib.ListN.{get_or}
 use lib.Seq.{get_or-append-add}
@@ -24,18 +26,16 @@ place x B.Empty = B.Empty
 place x (B.Information a l) = B.Information x l
 place x (B.Asking n s d a l f) = B.Asking n s d x l f
 place x (B.Answer n f t) = B.Answer n f t
-place x (B.Query n o p) = B.Query n o p
-place x (B.List n o p c) = B.List n o p c
-place x B.Wrong = B.Wrong
+place x (B.Query n p) = B.Query n p
+place x (B.List n p c) = B.List n p c
 
 abbrev pub start_of : Body → ℕ
 start_of B.Empty = 0
 start_of (B.Information a l) = a
 start_of (B.Asking n s d a l f) = a
 start_of (B.Answer n f t) = 0
-start_of (B.Query n o p) = 0
-start_of (B.List n o p c) = 0
-start_of B.Wrong = 0
+start_of (B.Query n p) = 0
+start_of (B.List n p c) = 0
 
 own_place : (b : Body) → b ≡ place (start_of b) (unplaced_body b)
 unfolding unplaced_body
@@ -43,9 +43,8 @@ own_place B.Empty = refl
 own_place (B.Information a l) = refl
 own_place (B.Asking n s d a l f) = refl
 own_place (B.Answer n f t) = refl
-own_place (B.Query n o p) = refl
-own_place (B.List n o p c) = refl
-own_place B.Wrong = refl
+own_place (B.Query n p) = refl
+own_place (B.List n p c) = refl
 
 new_place : (x : ℕ) (b : Body) → place x (unplaced_body b) ≡ place x b
 unfolding unplaced_body
@@ -53,9 +52,8 @@ new_place x B.Empty = refl
 new_place x (B.Information a l) = refl
 new_place x (B.Asking n s d a l f) = refl
 new_place x (B.Answer n f t) = refl
-new_place x (B.Query n o p) = refl
-new_place x (B.List n o p c) = refl
-new_place x B.Wrong = refl
+new_place x (B.Query n p) = refl
+new_place x (B.List n p c) = refl
 
 -- bodies that are the same starts aside
 pub placed : (x y : Body) → unplaced_body x ≡ unplaced_body y → x ≡ place (start_of x) y
@@ -68,7 +66,6 @@ past_kind (K.I a ns nr r) e p d z j = get_or-append-add (kind_words (K.I a ns nr
 past_kind (K.S a nr r) e p d z j = get_or-append-add (kind_words (K.S a nr r) e p d) z j 0
 past_kind (K.Ui nu) e p d z j = get_or-append-add (kind_words (K.Ui nu) e p d) z j 0
 past_kind (K.U m response) e p d z j = get_or-append-add (kind_words (K.U m response) e p d) z j 0
-past_kind K.Wrong e p d z j = get_or-append-add (kind_words K.Wrong e p d) z j 0
 
 -- two lists of words whose bodies differ in starts alone
 record Agree (w v : List ℕ) : Type 0 where
@@ -89,44 +86,44 @@ moved w B.Empty = B.Empty
 moved w (B.Information a l) = B.Information (word w 11) l
 moved w (B.Asking n s d a l f) = B.Asking n s d (word w 17) l f
 moved w (B.Answer n f t) = B.Answer n f t
-moved w (B.Query n o p) = B.Query n o p
-moved w (B.List n o p c) = B.List n o p c
-moved w B.Wrong = B.Wrong
+moved w (B.Query n p) = B.Query n p
+moved w (B.List n p c) = B.List n p c
 
 module _ (w v : List ℕ) (g : Agree w v) where
   form_moves : (a : ℕ) (form : Form) → form_said w a form ≡ moved w (form_said v a form)
   unfolding asking_said
   form_moves a F.Asking = λ i. B.Asking a (g.w15 i % 16) (g.w16 i % 16) (word w 17) (g.w18 i) (format_said (g.w19 i) (eqb a 5))
   form_moves a F.Answer = λ i. B.Answer a (format_said (g.w19 i) (eqb a 5)) (g.w14 i % 4)
-  form_moves a F.Query = λ i. B.Query a (eqb (g.w20 i) 1) (ports_said (g.w21 i) (eqb (g.w20 i) 1))
-  form_moves a F.List = λ i. B.List a (eqb (g.w20 i) 1) (ports_said (g.w21 i) (eqb (g.w20 i) 1)) (g.w22 i % 16)
-  form_moves a F.Wrong = refl
+  form_moves a F.Query = λ i. B.Query a (ports_said (g.w21 i) (eqb (g.w20 i) 1))
+  form_moves a F.List = λ i. B.List a (ports_said (g.w21 i) (eqb (g.w20 i) 1)) (g.w22 i % 16)
 
-  manage_moves : (response : Bool) → manage_said w response ≡ moved w (manage_said v response)
+  manage_moves : (response : Bool) → manage_said w response ≡ option_map (moved w) (manage_said v response)
   unfolding manage_said
-  manage_moves response = ap (λ (n : ℕ). form_said w (n % 16) (form_of (n % 16) response)) g.w13 ∙ form_moves (word v 13 % 16) (form_of (word v 13 % 16) response)
+  manage_moves response = ap (λ (n : ℕ). option_map (form_said w (n % 16)) (form_of (n % 16) response)) g.w13 ∙ go (form_of (word v 13 % 16) response) where
+    go : (form : Option Form) → option_map (form_said w (word v 13 % 16)) form ≡ option_map (moved w) (option_map (form_said v (word v 13 % 16)) form)
+    go None = refl
+    go (Some form) = ap Some (form_moves (word v 13 % 16) form)
 
-  information_moves : information_said w ≡ moved w (information_said v)
-  information_moves = ap (B.Information (word w 11)) g.w12
+  information_moves : Some (information_said w) ≡ option_map (moved w) (Some (information_said v))
+  information_moves = ap (λ (n : ℕ). Some (B.Information (word w 11) n)) g.w12
 
-  u_moves : (m : ℕ) (response ads : Bool) → u_said w m response ads ≡ moved w (u_said v m response ads)
+  u_moves : (m : ℕ) (response ads : Bool) → u_said w m response ads ≡ option_map (moved w) (u_said v m response ads)
   unfolding u_said
   u_moves m response ads = go (eqb m 1) (eqb m 4) (eqb m 10) ads where
-    go : (x y z ads : Bool) → pick x B.Empty (pick y B.Empty (pick z (pick ads B.Wrong (manage_said w response)) (information_said w)))
-        ≡ moved w (pick x B.Empty (pick y B.Empty (pick z (pick ads B.Wrong (manage_said v response)) (information_said v))))
+    go : (x y z ads : Bool) → pick x (Some B.Empty) (pick y (Some B.Empty) (pick z (pick ads None (manage_said w response)) (Some (information_said w))))
+        ≡ option_map (moved w) (pick x (Some B.Empty) (pick y (Some B.Empty) (pick z (pick ads None (manage_said v response)) (Some (information_said v)))))
     go true y z ads = refl
     go false true z ads = refl
     go false false true true = refl
     go false false true false = manage_moves response
     go false false false ads = information_moves
 
-  said_moves : (ads : Bool) (k : Kind) → body_said w ads k ≡ moved w (body_said v ads k)
+  said_moves : (ads : Bool) (k : Kind) → body_said w ads k ≡ option_map (moved w) (body_said v ads k)
   unfolding body_said
   said_moves ads (K.I a ns nr r) = information_moves
   said_moves ads (K.S a nr r) = refl
   said_moves ads (K.Ui nu) = information_moves
   said_moves ads (K.U m response) = u_moves m response ads
-  said_moves ads K.Wrong = refl
 
 module _ (k : Kind) (e p d : ℕ) (l m : List ℕ) where
   abbrev with : Body → List ℕ → List ℕ
@@ -145,9 +142,8 @@ module _ (k : Kind) (e p d : ℕ) (l m : List ℕ) where
   same_others x (B.Information a n) = refl
   same_others x (B.Asking n s d a c f) = refl
   same_others x (B.Answer n f t) = refl
-  same_others x (B.Query n o q) = refl
-  same_others x (B.List n o q c) = refl
-  same_others x B.Wrong = refl
+  same_others x (B.Query n q) = refl
+  same_others x (B.List n q c) = refl
 
   agree : (x : ℕ) (b : Body) → Agree (with (place x b) l) (with b m)
   agree x b = record {
@@ -171,10 +167,9 @@ module _ (k : Kind) (e p d : ℕ) (l m : List ℕ) where
   start_said x (B.Information a n) = ap (λ (y : ℕ). B.Information y n) (at_word (B.Information x n) l 0)
   start_said x (B.Asking n s d a c f) = ap (λ (y : ℕ). B.Asking n s d y c f) (at_word (B.Asking n s d x c f) l 6)
   start_said x (B.Answer n f t) = refl
-  start_said x (B.Query n o q) = refl
-  start_said x (B.List n o q c) = refl
-  start_said x B.Wrong = refl
+  start_said x (B.Query n q) = refl
+  start_said x (B.List n q c) = refl
 
   -- a body that its words say is said with its part elsewhere too
-  pub body_elsewhere : (ads : Bool) (x : ℕ) (b : Body) → body_said (with b m) ads k ≡ b → body_said (with (place x b) l) ads k ≡ place x b
-  body_elsewhere ads x b h = said_moves (with (place x b) l) (with b m) (agree x b) ads k ∙ ap (moved (with (place x b) l)) h ∙ start_said x b
+  pub body_elsewhere : (ads : Bool) (x : ℕ) (b : Body) → body_said (with b m) ads k ≡ Some b → body_said (with (place x b) l) ads k ≡ Some (place x b)
+  body_elsewhere ads x b h = said_moves (with (place x b) l) (with b m) (agree x b) ads k ∙ ap (option_map (moved (with (place x b) l))) h ∙ ap Some (start_said x b)

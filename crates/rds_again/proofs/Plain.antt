@@ -1,7 +1,7 @@
 -- Bodies without a list, as they were read: their words say them, and they are no longer than an information field. Assumes nothing.
-use Prim.Native.Nat.{ℕ, ◌+◌, ◌-◌, ◌*◌, ◌/◌, ◌%◌, ◌<◌, ◌≤◌}
+use Prim.Native.Nat.{ℕ, ◌+◌, ◌-◌, ◌/◌, ◌%◌, ◌<◌, ◌≤◌}
 use native.Mathlib.Omega.{arith}
-use mathlib.Core.Path.{◌≡◌, refl, sym, ap, ◌∙◌}
+use mathlib.Core.Path.{◌≡◌, refl, sym, ap, subst, ◌∙◌}
 use mathlib.Core.List.{List, ◌++◌}
 use mathlib.Core.Bool.{Bool, true, false}
 use lib.ListN.{length, get_or, take, drop, length-drop}
@@ -19,14 +19,22 @@ use Rattle.rds_body.specs.declared.Body.{Body}
 use Rattle.rds_body.specs.declared.Body.TheVariants as B
 use Rattle.rds_body.specs.declared.Form.TheVariants as F
 use Rattle.rds_body.specs.declared.Managed.{Managed}
-use Rattle.rds_body.specs.declared.Optional.TheVariants.{Missing, There, Wrong}
-use Rattle.rds_body.specs.Body.{form_of, bitmap_of, optional_of, asking_of, answer_of, query_by, query_of, no_list}
-use Rattle.rds_reading.specs.Read.{sound_body}
+use Rattle.std.specs.Prelude.{Option, Some, None, is_some}
+use Rattle.std.specs.Option.{unwrap_or}
+use Rattle.rds_body.specs.Body.{form_of, bitmap_of, optional_of, asking_of, answer_of, query_by, query_of, no_list, lone}
 use Rattle.rds_words.specs.Words.{kind_words, body_words, list_words}
 use Rattle.rds_size.specs.Size.{inside, is_application, information_size, asking_size, body_size}
 use Rattle.rds_said.specs.Said.{format_said, ports_said, asking_said, manage_said, u_said, body_said, entry_said, list_said, entries_said}
-use Rattle.rds_written.proofs.Headers.{bit_said}
+use Rattle.rds_written.proofs.Forms.{Bitmap}
 use Rattle.rds_writing.specs.Write.{is_items}
+
+-- what is found, if anything, is as P says
+abbrev pub Each : {A : Type 0} → (A → Type 0) → Option A → Type 0
+Each P (Some x) = P x
+Each P None = Unit
+
+pub each_at : {A : Type 0} (P : A → Type 0) (o : Option A) (x : A) → o ≡ Some x → Each P o → P x
+each_at P o x e h = subst (Each P) e h
 
 -- the words of a kind, a body and its entries
 abbrev pub words_by : Kind → ℕ → ℕ → ℕ → Managed → List ℕ
@@ -34,7 +42,7 @@ words_by k e p d m = kind_words k e p d ++ (body_words m.body ++ list_words m.li
 
 -- the body m, read in s after a header of kind k: its words say it, and it is no longer than an information field
 pub record Kept (s : List ℕ) (k : Kind) (ads : Bool) (e p d : ℕ) (m : Managed) : Type 0 where
-  pub said : body_said (words_by k e p d m) ads k ≡ m.body
+  pub said : body_said (words_by k e p d m) ads k ≡ Some m.body
   pub listed : entries_said (words_by k e p d m) m.body ≡ m.list
   pub small : body_size s m.list (is_items k) m.body ≤ 1520
 
@@ -66,7 +74,7 @@ module _ (s : List ℕ) (end : ℕ) (within : end ≤ length s) (short : length 
     s_kept a nr r = record { said = refl; listed = refl; small = omega arith }
 
     -- U frames but MANAGE_PORT
-    pub u_empty : (m : ℕ) (response : Bool) → u_said (words_by (K.U m response) e p d (no_list B.Empty)) m response ads ≡ B.Empty → Kept s (K.U m response) ads e p d (no_list B.Empty)
+    pub u_empty : (m : ℕ) (response : Bool) → u_said (words_by (K.U m response) e p d (no_list B.Empty)) m response ads ≡ Some B.Empty → Kept s (K.U m response) ads e p d (no_list B.Empty)
     unfolding no_list kind_words body_words body_said entries_said list_said entry_said tab body_size
     u_empty m response h = record { said = h; listed = refl; small = omega arith }
 
@@ -107,17 +115,17 @@ application_here s start len octet e some =
       positive m h = omega (arith, h)
 
 -- a bitmap of ports that words say
-pub ports_again : (some : Bool) (x y : ℕ) → x ≡ y * 2 → x < 65536 → (some ≡ false → x ≡ 0) → ports_said x (eqb (bit some) 1) ≡ x
+pub ports_again : (p : Option ℕ) → Bitmap p → ports_said (unwrap_or p 0) (eqb (bit (is_some p)) 1) ≡ p
 unfolding ports_said
-ports_again true x y h l none = omega (arith, h, l)
-ports_again false x y h l none = sym (none refl)
+ports_again (Some x) even = ap Some (omega (arith, even.0, even.1))
+ports_again None even = refl
 
 module _ (s : List ℕ) (octet : (i : ℕ) → get_or s i 0 < 256) (at : ℕ) (e p d : ℕ) (response : Bool) where
   -- MANAGE_PORT, without ports in the header
   abbrev pub k : Kind
   k = K.U 10 response
 
-  asking_kept : (a q r len f : ℕ) → a < 16 → q < 16 → r < 16 → f < 8 → (eqb a 5 ≡ false → f ≡ 0) → form_of a response ≡ F.Asking → is_application s (at + 2) len ≡ true → len ≤ 272
+  asking_kept : (a q r len f : ℕ) → a < 16 → q < 16 → r < 16 → f < 8 → (eqb a 5 ≡ false → f ≡ 0) → form_of a response ≡ Some F.Asking → is_application s (at + 2) len ≡ true → len ≤ 272
       → Kept s k false e p d (no_list (B.Asking a q r (at + 2) len f))
   unfolding no_list kind_words body_words body_said entries_said list_said entry_said tab body_size is_items u_said manage_said asking_said format_said asking_size
   asking_kept a q r len f ha hq hr hf none form app small =
@@ -125,7 +133,7 @@ module _ (s : List ℕ) (octet : (i : ℕ) → get_or s i 0 < 256) (at : ℕ) (e
       let zq : q % 16 ≡ q = omega (arith, hq) in
       let zr : r % 16 ≡ r = omega (arith, hr) in
       record {
-        said = rw (za, form) (λ i. B.Asking a (zq i) (zr i) (at + 2) len (format (eqb a 5) none i));
+        said = rw (za, form) (λ i. Some (B.Asking a (zq i) (zr i) (at + 2) len (format (eqb a 5) none i)));
         listed = refl;
         small = rw app (size (eqb a 5));
       } where
@@ -137,12 +145,12 @@ module _ (s : List ℕ) (octet : (i : ℕ) → get_or s i 0 < 256) (at : ℕ) (e
         size true = omega (arith, small)
         size false = omega (arith, small)
 
-  answer_kept : (a f t : ℕ) → a < 16 → f < 8 → (eqb a 5 ≡ false → f ≡ 0) → t < 4 → form_of a response ≡ F.Answer → Kept s k false e p d (no_list (B.Answer a f t))
+  answer_kept : (a f t : ℕ) → a < 16 → f < 8 → (eqb a 5 ≡ false → f ≡ 0) → t < 4 → form_of a response ≡ Some F.Answer → Kept s k false e p d (no_list (B.Answer a f t))
   unfolding no_list kind_words body_words body_said entries_said list_said entry_said tab body_size is_items u_said manage_said format_said
   answer_kept a f t ha hf none ht form =
       let za : a % 16 ≡ a = omega (arith, ha) in
       let zt : t % 4 ≡ t = omega (arith, ht) in
-      record { said = rw (za, form) (λ i. B.Answer a (format (eqb a 5) none i) (zt i)); listed = refl; small = size (eqb a 5) } where
+      record { said = rw (za, form) (λ i. Some (B.Answer a (format (eqb a 5) none i) (zt i))); listed = refl; small = size (eqb a 5) } where
         format : (b : Bool) → (b ≡ false → f ≡ 0) → pick b (f % 8) 0 ≡ f
         format true none = omega (arith, hf)
         format false none = sym (none refl)
@@ -151,11 +159,11 @@ module _ (s : List ℕ) (octet : (i : ℕ) → get_or s i 0 < 256) (at : ℕ) (e
         size true = omega arith
         size false = omega arith
 
-  query_kept : (a : ℕ) (some : Bool) (x y : ℕ) → a < 16 → x ≡ y * 2 → x < 65536 → (some ≡ false → x ≡ 0) → form_of a response ≡ F.Query → Kept s k false e p d (no_list (B.Query a some x))
+  query_kept : (a : ℕ) (ports : Option ℕ) → a < 16 → Bitmap ports → form_of a response ≡ Some F.Query → Kept s k false e p d (no_list (B.Query a ports))
   unfolding no_list kind_words body_words body_said entries_said list_said entry_said tab body_size is_items u_said manage_said
-  query_kept a some x y ha h l none form =
+  query_kept a ports ha even form =
       let za : a % 16 ≡ a = omega (arith, ha) in
-      record { said = rw (za, form) (λ i. B.Query a (bit_said some i) (ports_again some x y h l none i)); listed = refl; small = size some } where
+      record { said = rw (za, form) (λ i. Some (B.Query a (ports_again ports even i))); listed = refl; small = size (is_some ports) } where
         size : (b : Bool) → pick b 3 1 ≤ 1520
         size true = omega arith
         size false = omega arith
@@ -166,7 +174,7 @@ module _ (s : List ℕ) (octet : (i : ℕ) → get_or s i 0 < 256) (at : ℕ) (e
     octet_t i = rw (here, get_or-drop at s i 0) (octet (at + i))
 
     -- the command Reserve or Release, where it is sound
-    pub asking_read : (a : ℕ) → a < 16 → form_of a response ≡ F.Asking → sound_body (asking_of t at a) ≡ true → Kept s k false e p d (no_list (asking_of t at a))
+    pub asking_read : (a : ℕ) → a < 16 → form_of a response ≡ Some F.Asking → Each (Kept s k false e p d) (lone (asking_of t at a))
     unfolding asking_of
     asking_read a ha form = go (ltb (length t) 2) (eqb len 0) refl (eqb a 5) refl (eqb (length t) (2 + len + 1)) (eqb (length t) (2 + len)) where
       len : ℕ
@@ -181,8 +189,8 @@ module _ (s : List ℕ) (octet : (i : ℕ) → get_or s i 0 < 256) (at : ℕ) (e
       other : Body
       other = B.Asking a (x / 16) (x % 16) (at + 2) len 0
 
-      read : Bool → Bool → Bool → Bool → Bool → Body
-      read b2 b0 b5 bf bo = pick b2 B.Wrong (pick b0 B.Wrong (pick b5 (pick bf five B.Wrong) (pick bo other B.Wrong)))
+      read : Bool → Bool → Bool → Bool → Bool → Option Body
+      read b2 b0 b5 bf bo = pick b2 None (pick b0 None (pick b5 (pick bf (Some five) None) (pick bo (Some other) None)))
 
       app : eqb len 0 ≡ false → is_application s (at + 2) len ≡ true
       app q = application_here s (at + 2) len octet (ap application_length (sym (drop-drop 2 at s)) ∙ ap (λ (y : List ℕ). application_length (drop 2 y)) (sym here)) (eqb-false len 0 q)
@@ -190,29 +198,29 @@ module _ (s : List ℕ) (octet : (i : ℕ) → get_or s i 0 < 256) (at : ℕ) (e
       bound : eqb len 0 ≡ false → len ≤ 272
       bound q = (alone (drop 2 t) len (rw (get_or-drop 2 t 16 0) (octet_t (2 + 16))) refl (eqb-false len 0 q)).bounded
 
-      go : (b2 b0 : Bool) → eqb len 0 ≡ b0 → (b5 : Bool) → eqb a 5 ≡ b5 → (bf bo : Bool) → sound_body (read b2 b0 b5 bf bo) ≡ true → Kept s k false e p d (no_list (read b2 b0 b5 bf bo))
-      go true b0 q b5 r bf bo h = true_false (sym h)
-      go false true q b5 r bf bo h = true_false (sym h)
-      go false false q true r true bo h = asking_kept a (x / 16) (x % 16) len (get_or t (2 + len) 0 % 8) ha (omega (arith, octet_t 1)) (omega arith) (omega arith) (λ n. true_false (sym r ∙ n)) form (app q) (bound q)
-      go false false q true r false bo h = true_false (sym h)
-      go false false q false r bf true h = asking_kept a (x / 16) (x % 16) len 0 ha (omega (arith, octet_t 1)) (omega arith) (omega arith) (λ n. refl) form (app q) (bound q)
-      go false false q false r bf false h = true_false (sym h)
+      go : (b2 b0 : Bool) → eqb len 0 ≡ b0 → (b5 : Bool) → eqb a 5 ≡ b5 → (bf bo : Bool) → Each (Kept s k false e p d) (lone (read b2 b0 b5 bf bo))
+      go true b0 q b5 r bf bo = tt
+      go false true q b5 r bf bo = tt
+      go false false q true r true bo = asking_kept a (x / 16) (x % 16) len (get_or t (2 + len) 0 % 8) ha (omega (arith, octet_t 1)) (omega arith) (omega arith) (λ n. true_false (sym r ∙ n)) form (app q) (bound q)
+      go false false q true r false bo = tt
+      go false false q false r bf true = asking_kept a (x / 16) (x % 16) len 0 ha (omega (arith, octet_t 1)) (omega arith) (omega arith) (λ n. refl) form (app q) (bound q)
+      go false false q false r bf false = tt
 
-    pub answer_read : (a : ℕ) → a < 16 → form_of a response ≡ F.Answer → sound_body (answer_of t a) ≡ true → Kept s k false e p d (no_list (answer_of t a))
+    pub answer_read : (a : ℕ) → a < 16 → form_of a response ≡ Some F.Answer → Each (Kept s k false e p d) (lone (answer_of t a))
     unfolding answer_of
     answer_read a ha form = go (eqb a 5) refl (eqb (length t) 3) (ltb (get_or t 2 0) 4) refl (eqb (length t) 2) (ltb (get_or t 1 0) 4) refl where
-      read : Bool → Bool → Bool → Bool → Bool → Body
-      read b5 b3 bx b2 by = pick b5 (pick b3 (pick bx (B.Answer a (get_or t 1 0 % 8) (get_or t 2 0)) B.Wrong) B.Wrong) (pick b2 (pick by (B.Answer a 0 (get_or t 1 0)) B.Wrong) B.Wrong)
+      read : Bool → Bool → Bool → Bool → Bool → Option Body
+      read b5 b3 bx b2 by = pick b5 (pick b3 (pick bx (Some (B.Answer a (get_or t 1 0 % 8) (get_or t 2 0))) None) None) (pick b2 (pick by (Some (B.Answer a 0 (get_or t 1 0))) None) None)
 
-      go : (b5 : Bool) → eqb a 5 ≡ b5 → (b3 bx : Bool) → ltb (get_or t 2 0) 4 ≡ bx → (b2 by : Bool) → ltb (get_or t 1 0) 4 ≡ by → sound_body (read b5 b3 bx b2 by) ≡ true → Kept s k false e p d (no_list (read b5 b3 bx b2 by))
-      go true r true true q b2 by u h = answer_kept a (get_or t 1 0 % 8) (get_or t 2 0) ha (omega arith) (λ n. true_false (sym r ∙ n)) (ltb-true (get_or t 2 0) 4 q) form
-      go true r true false q b2 by u h = true_false (sym h)
-      go true r false bx q b2 by u h = true_false (sym h)
-      go false r b3 bx q true true u h = answer_kept a 0 (get_or t 1 0) ha (omega arith) (λ n. refl) (ltb-true (get_or t 1 0) 4 u) form
-      go false r b3 bx q true false u h = true_false (sym h)
-      go false r b3 bx q false by u h = true_false (sym h)
+      go : (b5 : Bool) → eqb a 5 ≡ b5 → (b3 bx : Bool) → ltb (get_or t 2 0) 4 ≡ bx → (b2 by : Bool) → ltb (get_or t 1 0) 4 ≡ by → Each (Kept s k false e p d) (lone (read b5 b3 bx b2 by))
+      go true r true true q b2 by u = answer_kept a (get_or t 1 0 % 8) (get_or t 2 0) ha (omega arith) (λ n. true_false (sym r ∙ n)) (ltb-true (get_or t 2 0) 4 q) form
+      go true r true false q b2 by u = tt
+      go true r false bx q b2 by u = tt
+      go false r b3 bx q true true u = answer_kept a 0 (get_or t 1 0) ha (omega arith) (λ n. refl) (ltb-true (get_or t 1 0) 4 u) form
+      go false r b3 bx q true false u = tt
+      go false r b3 bx q false by u = tt
 
-    pub query_read : (a : ℕ) → a < 16 → form_of a response ≡ F.Query → sound_body (query_of t a) ≡ true → Kept s k false e p d (no_list (query_of t a))
+    pub query_read : (a : ℕ) → a < 16 → form_of a response ≡ Some F.Query → Each (Kept s k false e p d) (lone (query_of t a))
     unfolding query_of optional_of
     query_read a ha form = go (eqb (length (drop 1 t)) 0) (eqb (length (drop 1 t)) 2) where
       x : ℕ
@@ -224,7 +232,7 @@ module _ (s : List ℕ) (octet : (i : ℕ) → get_or s i 0 < 256) (at : ℕ) (e
       high : get_or (drop 1 t) 1 0 < 256
       high = rw (get_or-drop 1 t 1 0) (octet_t (1 + 1))
 
-      go : (b0 b2 : Bool) → sound_body (query_by a (pick b0 Missing (pick b2 (There x) Wrong))) ≡ true → Kept s k false e p d (no_list (query_by a (pick b0 Missing (pick b2 (There x) Wrong))))
-      go true b2 h = query_kept a false 0 0 ha refl (omega arith) (λ n. refl) form
-      go false true h = query_kept a true x (get_or (drop 1 t) 0 0 / 2 + get_or (drop 1 t) 1 0 * 128) ha (omega arith) (omega (arith, low, high)) (λ n. true_false n) form
-      go false false h = true_false (sym h)
+      go : (b0 b2 : Bool) → Each (Kept s k false e p d) (lone (query_by a (pick b0 (Some None) (pick b2 (Some (Some x)) None))))
+      go true b2 = query_kept a None ha tt form
+      go false true = query_kept a (Some x) ha (omega arith, omega (arith, low, high)) form
+      go false false = tt

@@ -1,7 +1,7 @@
 -- The entries that a walk found: each can be written again, and together they are as long as the walk went. Assumes nothing.
 use Prim.Native.Nat.{ℕ, zero, suc, ◌+◌, ◌%◌, ◌<◌, ◌≤◌}
 use native.Mathlib.Omega.{arith}
-use mathlib.Core.Path.{◌≡◌, refl, sym, ap, ◌∙◌}
+use mathlib.Core.Path.{◌≡◌, refl, sym, ap, subst, ◌∙◌}
 use mathlib.Core.List.{List}
 use mathlib.Core.Bool.{Bool, true, false}
 use lib.ListN.{length, get_or, set, drop, length-set}
@@ -12,10 +12,11 @@ use Rattle.base_lists.specs.Seq.{pick, total}
 use Rattle.base_lists.proofs.StoresAndParts.{true_false, total_first, total_same}
 use Rattle.rds_entries.specs.declared.Entry.{Entry}
 use Rattle.rds_entries.specs.declared.Entries.{Entries}
-use Rattle.rds_entries.specs.declared.Got.{Got}
-use Rattle.rds_entries.specs.declared.Got.TheVariants.{One, Cut}
-use Rattle.rds_entries.specs.Entries.{no_entry, application_length, entry_of, entry_at, after_entry, walk_from}
-use Rattle.rds_entries.proofs.Inside.{cut_one, same_size}
+use Rattle.std.specs.Prelude.{Option, Some, None}
+use Rattle.std.proofs.lemmas.Option.{none-some}
+use Rattle.rds_entries.specs.Entries.{no_entry, one, application_length, entry_of, entry_at, after_entry, walk_from}
+use Rattle.rds_entries.proofs.Inside.{cut_one, same_size, same_entry}
+use Rattle.rds_entries.proofs.Walked.{same_entries}
 use Rattle.rds_size.specs.Size.{is_application, entry_size}
 use Rattle.rds_again.proofs.Plain.{application_here}
 
@@ -25,9 +26,6 @@ pub record Good (s : List ℕ) (f : Bool) (e : Entry) : Type 0 where
   pub destination_narrow : e.destination < 16
   pub format_narrow : e.format < 8
   pub no_format : f ≡ false → e.format ≡ 0
-
-pub same_entry : (a b : Entry) (m n : ℕ) → One a m ≡ One b n → a ≡ b
-same_entry a b m n p = cc
 
 -- one entry, and its size
 record Gotone (s : List ℕ) (f : Bool) (e : Entry) (z : ℕ) : Type 0 where
@@ -40,7 +38,7 @@ unfolding entry_size
 entry_sized s f g e h app = rw (app, h) refl
 
 module _ (s : List ℕ) (octet : (i : ℕ) → get_or s i 0 < 256) (f : Bool) where
-  got_one : (x : List ℕ) (at : ℕ) → x ≡ drop at s → (e : Entry) (z : ℕ) → entry_at x at f ≡ One e z → Gotone s f e z
+  got_one : (x : List ℕ) (at : ℕ) → x ≡ drop at s → (e : Entry) (z : ℕ) → entry_at x at f ≡ one e z → Gotone s f e z
   unfolding entry_at
   got_one x at here e z = go (eqb (length x) 0) (eqb len 0) refl f refl (leb (length x) (1 + len)) where
     len : ℕ
@@ -52,7 +50,7 @@ module _ (s : List ℕ) (octet : (i : ℕ) → get_or s i 0 < 256) (f : Bool) wh
     app : eqb len 0 ≡ false → is_application s (at + 1) len ≡ true
     app q = application_here s (at + 1) len octet (ap application_length (sym (drop-drop 1 at s)) ∙ ap (λ (y : List ℕ). application_length (drop 1 y)) (sym here)) (eqb-false len 0 q)
 
-    made : (g : Bool) (format : ℕ) (size : ℕ) → f ≡ g → format < 8 → (g ≡ false → format ≡ 0) → pick g (1 + len + 1) (1 + len) ≡ size → eqb len 0 ≡ false → One (entry_of x at len format) size ≡ One e z → Gotone s f e z
+    made : (g : Bool) (format : ℕ) (size : ℕ) → f ≡ g → format < 8 → (g ≡ false → format ≡ 0) → pick g (1 + len + 1) (1 + len) ≡ size → eqb len 0 ≡ false → one (entry_of x at len format) size ≡ one e z → Gotone s f e z
     made g format size fg low none m q p =
         rw (← same_entry _ _ _ _ p, same_size _ _ _ _ p) (record {
           good = record { source_narrow = omega (arith, octet_x 0); destination_narrow = omega arith; format_narrow = low; no_format = λ h. none (sym fg ∙ h) };
@@ -60,7 +58,7 @@ module _ (s : List ℕ) (octet : (i : ℕ) → get_or s i 0 < 256) (f : Bool) wh
         })
 
     go : (b0 bl : Bool) → eqb len 0 ≡ bl → (g : Bool) → f ≡ g → (b : Bool)
-        → pick b0 Cut (pick bl Cut (pick g (pick b Cut (One (entry_of x at len (get_or x (1 + len) 0 % 8)) (1 + len + 1))) (One (entry_of x at len 0) (1 + len)))) ≡ One e z → Gotone s f e z
+        → pick b0 None (pick bl None (pick g (pick b None (one (entry_of x at len (get_or x (1 + len) 0 % 8)) (1 + len + 1))) (one (entry_of x at len 0) (1 + len)))) ≡ one e z → Gotone s f e z
     go true bl q g fg b p = cut_one e z p
     go false true q g fg b p = cut_one e z p
     go false false q true fg true p = cut_one e z p
@@ -97,14 +95,16 @@ module _ (s : List ℕ) (octet : (i : ℕ) → get_or s i 0 < 256) (f : Bool) wh
             let z1 : k + suc i ≡ k + 1 + i = omega arith in
             rw z1 (w.good i (omega (arith, h)))
 
-  pub walk_found : (n k at : ℕ) (x : List ℕ) (read : List Entry) → x ≡ drop at s → k + n ≤ length read → (walk_from n k f at x read).whole ≡ true → Found n k at read (walk_from n k f at x read)
+  pub walk_found : (n k at : ℕ) (x : List ℕ) (read : List Entry) (r : Entries) → x ≡ drop at s → k + n ≤ length read → walk_from n k f at x read ≡ Some r → Found n k at read r
   unfolding walk_from total
-  walk_found zero k at x read here room w = record { before = λ i h. refl; good = λ i h. absurd (omega (arith, h)); past = λ i h. refl; full = refl; size = omega arith }
-  walk_found (suc n) k at x read here room w = go (entry_at x at f) refl w (λ j b y l h g v. walk_found n j b y l h g v) where
-    go : (g : Got) → entry_at x at f ≡ g → (after_entry (λ j. walk_from n j f) k at x read g).whole ≡ true
-        → ((j b : ℕ) (y : List ℕ) (l : List Entry) → y ≡ drop b s → j + n ≤ length l → (walk_from n j f b y l).whole ≡ true → Found n j b l (walk_from n j f b y l))
-        → Found (suc n) k at read (after_entry (λ j. walk_from n j f) k at x read g)
-    go Cut p w ih = true_false (sym w)
-    go (One e z) p w ih =
+  walk_found zero k at x read r here room w =
+      subst (λ (r : Entries). Found zero k at read r) (same_entries (record { end = at; list = read }) r w)
+      (record { before = λ i h. refl; good = λ i h. absurd (omega (arith, h)); past = λ i h. refl; full = refl; size = omega arith })
+  walk_found (suc n) k at x read r here room w = go (entry_at x at f) refl w (λ j b y l h g v. walk_found n j b y l r h g v) where
+    go : (g : Option (Entry × ℕ)) → entry_at x at f ≡ g → after_entry (λ j. walk_from n j f) k at x read g ≡ Some r
+        → ((j b : ℕ) (y : List ℕ) (l : List Entry) → y ≡ drop b s → j + n ≤ length l → walk_from n j f b y l ≡ Some r → Found n j b l r)
+        → Found (suc n) k at read r
+    go None p w ih = absurd (none-some r w)
+    go (Some (e, z)) p w ih =
         let d : drop z x ≡ drop (at + z) s = ap (drop z) here ∙ drop-drop z at s in
-        step n k at z e read _ (omega (arith, room)) (got_one x at here e z p) (ih (k + 1) (at + z) (drop z x) (set read k e) d (omega (arith, room, length-set read k e)) w)
+        step n k at z e read r (omega (arith, room)) (got_one x at here e z p) (ih (k + 1) (at + z) (drop z x) (set read k e) d (omega (arith, room, length-set read k e)) w)

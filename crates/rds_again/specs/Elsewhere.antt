@@ -13,9 +13,8 @@ PartInside s B.Empty = Unit
 PartInside s (B.Information a l) = a + l ≤ length s
 PartInside s (B.Asking n p d a l f) = a + l ≤ length s
 PartInside s (B.Answer n f t) = Unit
-PartInside s (B.Query n o p) = Unit
-PartInside s (B.List n o p c) = Unit
-PartInside s B.Wrong = Unit
+PartInside s (B.Query n p) = Unit
+PartInside s (B.List n p c) = Unit
 
 -- the entry k of a frame
 abbrev pub entry_in : Frame → ℕ → Entry

@@ -9,16 +9,15 @@ use lib.Seq.{drop-drop, drop-cons, get_or-drop}
 use lib.Dec.{ltb, eqb}
 use borrow.Author.Tests.{eqb-true, ltb-true, ltb-false}
 use Rattle.base_lists.specs.Seq.{pick, part}
-use Rattle.base_lists.proofs.StoresAndParts.{true_false}
 use Rattle.rds_lists.proofs.ListFacts.{rest}
 use Rattle.rds_entries.specs.declared.Entry.{Entry}
 use Rattle.rds_entries.specs.Entries.{application_length}
 use Rattle.rds_body.specs.declared.Body.{Body}
 use Rattle.rds_body.specs.declared.Body.TheVariants as B
 use Rattle.rds_body.specs.declared.Form.TheVariants as F
-use Rattle.rds_body.specs.declared.Optional.TheVariants.{Missing, There, Wrong}
+use Rattle.std.specs.Prelude.{Option, Some, None}
 use Rattle.rds_body.specs.Body.{bitmap_of, optional_of, asking_of, answer_of, query_by, query_of}
-use Rattle.rds_reading.specs.Read.{sound_body}
+use Rattle.rds_again.proofs.Plain.{Each}
 use Rattle.rds_pieces.specs.Octets.{ports_octet, bitmap_octets, fixed_of, asking_pieces, answer_pieces, query_pieces, pieces_of}
 use Rattle.rds_encoding.specs.Encoding.{entries_octets, pieces_octets}
 use Rattle.rds_back.specs.Spare.{cleared_formats, cleared_ports, cleared_form}
@@ -67,20 +66,19 @@ module _ (s : List ℕ) (l : List Entry) where
       let last : get_or t 1 0 ∷ [] ≡ drop 1 t = sym (drop-cons t 1 0 (omega (arith, two)) ∙ ap (λ (r : List ℕ). get_or t 1 0 ∷ r) (drop_of_length-le t {i = 2} (omega (arith, two)))) in
       rw five ((λ i. x i ∷ z i ∷ []) ∙ ap (λ (r : List ℕ). get_or t 0 0 % 16 ∷ r) last)
 
-  pub answer_again : (t : List ℕ) (a : ℕ) → a ≡ get_or t 0 0 % 16 → sound_body (answer_of t a) ≡ true → pieces_octets s l (pieces_of (answer_of t a)) ≡ cleared_form a F.Answer t
+  pub answer_again : (t : List ℕ) (a : ℕ) → a ≡ get_or t 0 0 % 16 → Each (λ (b : Body). pieces_octets s l (pieces_of b) ≡ cleared_form a F.Answer t) (answer_of t a)
   unfolding answer_of pieces_of cleared_form
   answer_again t a ha = go (eqb a 5) refl (eqb (length t) 3) refl (ltb (get_or t 2 0) 4) refl (eqb (length t) 2) refl (ltb (get_or t 1 0) 4) refl where
-    read : Bool → Bool → Bool → Bool → Bool → Body
-    read b5 b3 bx b2 by = pick b5 (pick b3 (pick bx (B.Answer a (get_or t 1 0 % 8) (get_or t 2 0)) B.Wrong) B.Wrong) (pick b2 (pick by (B.Answer a 0 (get_or t 1 0)) B.Wrong) B.Wrong)
+    read : Bool → Bool → Bool → Bool → Bool → Option Body
+    read b5 b3 bx b2 by = pick b5 (pick b3 (pick bx (Some (B.Answer a (get_or t 1 0 % 8) (get_or t 2 0))) None) None) (pick b2 (pick by (Some (B.Answer a 0 (get_or t 1 0))) None) None)
 
-    go : (b5 : Bool) → eqb a 5 ≡ b5 → (b3 : Bool) → eqb (length t) 3 ≡ b3 → (bx : Bool) → ltb (get_or t 2 0) 4 ≡ bx → (b2 : Bool) → eqb (length t) 2 ≡ b2 → (by : Bool) → ltb (get_or t 1 0) 4 ≡ by → sound_body (read b5 b3 bx b2 by) ≡ true
-        → pieces_octets s l (pieces_of (read b5 b3 bx b2 by)) ≡ get_or t 0 0 % 16 ∷ pick b5 (get_or t 1 0 % 8 ∷ drop 2 t) (drop 1 t)
-    go true p5 true p3 true px b2 p2 by py h = answer_five t a p5 ha (eqb-true (length t) 3 p3) (ltb-true (get_or t 2 0) 4 px)
-    go true p5 true p3 false px b2 p2 by py h = true_false (sym h)
-    go true p5 false p3 bx px b2 p2 by py h = true_false (sym h)
-    go false p5 b3 p3 bx px true p2 true py h = answer_other t a p5 ha (eqb-true (length t) 2 p2) (ltb-true (get_or t 1 0) 4 py)
-    go false p5 b3 p3 bx px true p2 false py h = true_false (sym h)
-    go false p5 b3 p3 bx px false p2 by py h = true_false (sym h)
+    go : (b5 : Bool) → eqb a 5 ≡ b5 → (b3 : Bool) → eqb (length t) 3 ≡ b3 → (bx : Bool) → ltb (get_or t 2 0) 4 ≡ bx → (b2 : Bool) → eqb (length t) 2 ≡ b2 → (by : Bool) → ltb (get_or t 1 0) 4 ≡ by → Each (λ (b : Body). pieces_octets s l (pieces_of b) ≡ get_or t 0 0 % 16 ∷ pick b5 (get_or t 1 0 % 8 ∷ drop 2 t) (drop 1 t)) (read b5 b3 bx b2 by)
+    go true p5 true p3 true px b2 p2 by py = answer_five t a p5 ha (eqb-true (length t) 3 p3) (ltb-true (get_or t 2 0) 4 px)
+    go true p5 true p3 false px b2 p2 by py = tt
+    go true p5 false p3 bx px b2 p2 by py = tt
+    go false p5 b3 p3 bx px true p2 true py = answer_other t a p5 ha (eqb-true (length t) 2 p2) (ltb-true (get_or t 1 0) 4 py)
+    go false p5 b3 p3 bx px true p2 false py = tt
+    go false p5 b3 p3 bx px false p2 by py = tt
 
   -- two octets of ports, with bit 1 of the first cleared
   pub ports_again : (u : List ℕ) → ((i : ℕ) → get_or u i 0 < 256) → length u ≡ 2 → bitmap_octets (bitmap_of u) ≡ cleared_ports u
@@ -93,17 +91,16 @@ module _ (s : List ℕ) (l : List Entry) where
       λ i. low i ∷ high i ∷ []
   ports_again (x ∷ y ∷ z ∷ u) o h = absurd (omega (arith, h))
 
-  pub query_again : (t : List ℕ) (a : ℕ) → a ≡ get_or t 0 0 % 16 → ((i : ℕ) → get_or t i 0 < 256) → sound_body (query_of t a) ≡ true → pieces_octets s l (pieces_of (query_of t a)) ≡ cleared_form a F.Query t
+  pub query_again : (t : List ℕ) (a : ℕ) → a ≡ get_or t 0 0 % 16 → ((i : ℕ) → get_or t i 0 < 256) → Each (λ (b : Body). pieces_octets s l (pieces_of b) ≡ cleared_form a F.Query t) (query_of t a)
   unfolding query_of optional_of pieces_of query_pieces fixed_of pieces_octets entries_octets cleared_form
   query_again t a ha o = go (eqb (length (drop 1 t)) 0) refl (eqb (length (drop 1 t)) 2) refl where
     x : a % 16 ≡ get_or t 0 0 % 16
     x = omega (arith, ha)
 
-    go : (b0 : Bool) → eqb (length (drop 1 t)) 0 ≡ b0 → (b2 : Bool) → eqb (length (drop 1 t)) 2 ≡ b2 → sound_body (query_by a (pick b0 Missing (pick b2 (There (bitmap_of (drop 1 t))) Wrong))) ≡ true
-        → pieces_octets s l (pieces_of (query_by a (pick b0 Missing (pick b2 (There (bitmap_of (drop 1 t))) Wrong)))) ≡ get_or t 0 0 % 16 ∷ cleared_ports (drop 1 t)
-    go true p b2 q h = (λ i. x i ∷ []) ∙ ap (λ (r : List ℕ). get_or t 0 0 % 16 ∷ r) (none_cleared (drop 1 t) (eqb-true (length (drop 1 t)) 0 p))
-    go false p true q h = λ i. x i ∷ ports_again (drop 1 t) (λ j. rw (get_or-drop 1 t j 0) (o (1 + j))) (eqb-true (length (drop 1 t)) 2 q) i
-    go false p false q h = true_false (sym h)
+    go : (b0 : Bool) → eqb (length (drop 1 t)) 0 ≡ b0 → (b2 : Bool) → eqb (length (drop 1 t)) 2 ≡ b2 → Each (λ (b : Body). pieces_octets s l (pieces_of b) ≡ get_or t 0 0 % 16 ∷ cleared_ports (drop 1 t)) (query_by a (pick b0 (Some None) (pick b2 (Some (Some (bitmap_of (drop 1 t)))) None)))
+    go true p b2 q = (λ i. x i ∷ []) ∙ ap (λ (r : List ℕ). get_or t 0 0 % 16 ∷ r) (none_cleared (drop 1 t) (eqb-true (length (drop 1 t)) 0 p))
+    go false p true q = λ i. x i ∷ ports_again (drop 1 t) (λ j. rw (get_or-drop 1 t j 0) (o (1 + j))) (eqb-true (length (drop 1 t)) 2 q) i
+    go false p false q = tt
 
   module _ (at : ℕ) (t : List ℕ) (here : t ≡ drop at s) (o : (i : ℕ) → get_or t i 0 < 256) (a : ℕ) (ha : a ≡ get_or t 0 0 % 16) where
     abbrev len : ℕ
@@ -137,17 +134,16 @@ module _ (s : List ℕ) (l : List Entry) where
         let last : [] ≡ drop (2 + len) t = sym (drop_of_length-le t {i = 2 + len} (omega (arith, n))) in
         rw five (asking_front two [] ∙ ap (λ (r : List ℕ). get_or t 0 0 % 16 ∷ (take (1 + len) (drop 1 t) ++ cleared_formats r)) last)
 
-    pub asking_again : sound_body (asking_of t at a) ≡ true → pieces_octets s l (pieces_of (asking_of t at a)) ≡ cleared_form a F.Asking t
+    pub asking_again : Each (λ (b : Body). pieces_octets s l (pieces_of b) ≡ cleared_form a F.Asking t) (asking_of t at a)
     unfolding asking_of pieces_of cleared_form
     asking_again = go (ltb (length t) 2) refl (eqb len 0) (eqb a 5) refl (eqb (length t) (2 + len + 1)) refl (eqb (length t) (2 + len)) refl where
-      read : Bool → Bool → Bool → Bool → Bool → Body
-      read b2 b0 b5 bf bo = pick b2 B.Wrong (pick b0 B.Wrong (pick b5 (pick bf (B.Asking a (x / 16) (x % 16) (at + 2) len (get_or t (2 + len) 0 % 8)) B.Wrong) (pick bo (B.Asking a (x / 16) (x % 16) (at + 2) len 0) B.Wrong)))
+      read : Bool → Bool → Bool → Bool → Bool → Option Body
+      read b2 b0 b5 bf bo = pick b2 None (pick b0 None (pick b5 (pick bf (Some (B.Asking a (x / 16) (x % 16) (at + 2) len (get_or t (2 + len) 0 % 8))) None) (pick bo (Some (B.Asking a (x / 16) (x % 16) (at + 2) len 0)) None)))
 
-      go : (b2 : Bool) → ltb (length t) 2 ≡ b2 → (b0 b5 : Bool) → eqb a 5 ≡ b5 → (bf : Bool) → eqb (length t) (2 + len + 1) ≡ bf → (bo : Bool) → eqb (length t) (2 + len) ≡ bo → sound_body (read b2 b0 b5 bf bo) ≡ true
-          → pieces_octets s l (pieces_of (read b2 b0 b5 bf bo)) ≡ get_or t 0 0 % 16 ∷ (take (1 + len) (drop 1 t) ++ cleared_formats (drop (2 + len) t))
-      go true p2 b0 b5 p5 bf pf bo po h = true_false (sym h)
-      go false p2 true b5 p5 bf pf bo po h = true_false (sym h)
-      go false p2 false true p5 true pf bo po h = asking_five p5 (ltb-false (length t) 2 p2) (eqb-true (length t) (2 + len + 1) pf)
-      go false p2 false true p5 false pf bo po h = true_false (sym h)
-      go false p2 false false p5 bf pf true po h = asking_other p5 (ltb-false (length t) 2 p2) (eqb-true (length t) (2 + len) po)
-      go false p2 false false p5 bf pf false po h = true_false (sym h)
+      go : (b2 : Bool) → ltb (length t) 2 ≡ b2 → (b0 b5 : Bool) → eqb a 5 ≡ b5 → (bf : Bool) → eqb (length t) (2 + len + 1) ≡ bf → (bo : Bool) → eqb (length t) (2 + len) ≡ bo → Each (λ (b : Body). pieces_octets s l (pieces_of b) ≡ get_or t 0 0 % 16 ∷ (take (1 + len) (drop 1 t) ++ cleared_formats (drop (2 + len) t))) (read b2 b0 b5 bf bo)
+      go true p2 b0 b5 p5 bf pf bo po = tt
+      go false p2 true b5 p5 bf pf bo po = tt
+      go false p2 false true p5 true pf bo po = asking_five p5 (ltb-false (length t) 2 p2) (eqb-true (length t) (2 + len + 1) pf)
+      go false p2 false true p5 false pf bo po = tt
+      go false p2 false false p5 bf pf true po = asking_other p5 (ltb-false (length t) 2 p2) (eqb-true (length t) (2 + len) po)
+      go false p2 false false p5 bf pf false po = tt

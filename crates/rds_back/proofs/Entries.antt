@@ -9,17 +9,17 @@ use lib.Seq.{drop-drop, drop-cons, get_or-drop, get_or-set_same}
 use lib.Dec.{leb, eqb}
 use borrow.Author.Tests.{eqb-false}
 use Rattle.base_lists.specs.Seq.{pick, part}
-use Rattle.base_lists.proofs.StoresAndParts.{true_false}
 use Rattle.rds_entries.specs.declared.Entry.{Entry}
-use Rattle.rds_entries.specs.declared.Got.{Got}
-use Rattle.rds_entries.specs.declared.Got.TheVariants.{One, Cut}
-use Rattle.rds_entries.specs.Entries.{no_entry, application_length, entry_of, entry_at, after_entry, walk_from}
-use Rattle.rds_entries.proofs.Inside.{cut_one, same_size}
-use Rattle.rds_entries.proofs.Walked.{walk_inside}
+use Rattle.rds_entries.specs.declared.Entries.{Entries}
+use Rattle.std.specs.Prelude.{Option, Some, None}
+use Rattle.std.proofs.lemmas.Option.{none-some}
+use Rattle.rds_entries.specs.Entries.{no_entry, one, application_length, entry_of, entry_at, after_entry, walk_from}
+use Rattle.rds_entries.proofs.Inside.{cut_one, same_size, same_entry}
+use Rattle.rds_entries.proofs.Walked.{same_entries, walk_inside}
 use Rattle.rds_pieces.specs.Octets.{ports_octet}
 use Rattle.rds_encoding.specs.Encoding.{entry_octets, entries_octets}
 use Rattle.rds_back.specs.Spare.{cleared_ports, application_after, cleared_entries}
-use Rattle.rds_again.proofs.Walked.{same_entry, walk_found}
+use Rattle.rds_again.proofs.Walked.{walk_found}
 
 module _ (s : List ℕ) (octet : (i : ℕ) → get_or s i 0 < 256) where
   module _ (x : List ℕ) (at : ℕ) (here : x ≡ drop at s) (some : 1 ≤ length x) where
@@ -57,7 +57,7 @@ module _ (s : List ℕ) (octet : (i : ℕ) → get_or s i 0 < 256) where
         sym (entry_front C) ∙ ap (λ (u : List ℕ). ports_octet (get_or x 0 0 / 16) (get_or x 0 0 % 16) ∷ (u ++ C)) (sym (append-nil P))
 
   -- the entry that was found at a place
-  one_cleared : (f : Bool) (n : ℕ) (x : List ℕ) (at : ℕ) → x ≡ drop at s → (e : Entry) (z : ℕ) → entry_at x at f ≡ One e z → cleared_entries (suc n) f x ≡ entry_octets s f e ++ cleared_entries n f (drop z x)
+  one_cleared : (f : Bool) (n : ℕ) (x : List ℕ) (at : ℕ) → x ≡ drop at s → (e : Entry) (z : ℕ) → entry_at x at f ≡ one e z → cleared_entries (suc n) f x ≡ entry_octets s f e ++ cleared_entries n f (drop z x)
   unfolding entry_at
   one_cleared f n x at here e z = go (eqb (length x) 0) refl (eqb len' 0) f refl (leb (length x) (1 + len')) where
     len' : ℕ
@@ -67,7 +67,7 @@ module _ (s : List ℕ) (octet : (i : ℕ) → get_or s i 0 < 256) where
     positive m h = omega (arith, h)
 
     go : (b0 : Bool) → eqb (length x) 0 ≡ b0 → (bl g : Bool) → f ≡ g → (b : Bool)
-        → pick b0 Cut (pick bl Cut (pick g (pick b Cut (One (entry_of x at len' (get_or x (1 + len') 0 % 8)) (1 + len' + 1))) (One (entry_of x at len' 0) (1 + len')))) ≡ One e z
+        → pick b0 None (pick bl None (pick g (pick b None (one (entry_of x at len' (get_or x (1 + len') 0 % 8)) (1 + len' + 1))) (one (entry_of x at len' 0) (1 + len')))) ≡ one e z
         → cleared_entries (suc n) f x ≡ entry_octets s f e ++ cleared_entries n f (drop z x)
     go true q bl g fg b p = cut_one e z p
     go false q true g fg b p = cut_one e z p
@@ -76,25 +76,28 @@ module _ (s : List ℕ) (octet : (i : ℕ) → get_or s i 0 < 256) where
     go false q false false fg b p = rw (fg, ← same_entry _ _ _ _ p, same_size _ _ _ _ p) (without_format x at here (positive (length x) (eqb-false (length x) 0 q)) n)
 
   -- all that a walk found, and what follows
-  pub walk_cleared : (f : Bool) (n k at : ℕ) (x : List ℕ) (read : List Entry) → x ≡ drop at s → k + n ≤ length read → (walk_from n k f at x read).whole ≡ true
-      → entries_octets s f (take n (drop k (walk_from n k f at x read).list)) ++ cleared_ports (drop ((walk_from n k f at x read).end - at) x) ≡ cleared_entries n f x
+  pub walk_cleared : (f : Bool) (n k at : ℕ) (x : List ℕ) (read : List Entry) (r : Entries) → x ≡ drop at s → k + n ≤ length read → walk_from n k f at x read ≡ Some r
+      → entries_octets s f (take n (drop k r.list)) ++ cleared_ports (drop (r.end - at) x) ≡ cleared_entries n f x
   unfolding walk_from cleared_entries entries_octets
-  walk_cleared f zero k at x read here room w = let z : at - at ≡ 0 = omega arith in ap (λ (i : ℕ). cleared_ports (drop i x)) z
-  walk_cleared f (suc n) k at x read here room w = go (entry_at x at f) refl w (λ j b y l h g v. walk_cleared f n j b y l h g v) where
-    go : (g : Got) → entry_at x at f ≡ g → (after_entry (λ j. walk_from n j f) k at x read g).whole ≡ true
-        → ((j b : ℕ) (y : List ℕ) (l : List Entry) → y ≡ drop b s → j + n ≤ length l → (walk_from n j f b y l).whole ≡ true → entries_octets s f (take n (drop j (walk_from n j f b y l).list)) ++ cleared_ports (drop ((walk_from n j f b y l).end - b) y) ≡ cleared_entries n f y)
-        → entries_octets s f (take (suc n) (drop k (after_entry (λ j. walk_from n j f) k at x read g).list)) ++ cleared_ports (drop ((after_entry (λ j. walk_from n j f) k at x read g).end - at) x) ≡ cleared_entries (suc n) f x
-    go Cut p w ih = true_false (sym w)
-    go (One e z) p w ih =
-        let L : List Entry = (walk_from n (k + 1) f (at + z) (drop z x) (set read k e)).list in
-        let end : ℕ = (walk_from n (k + 1) f (at + z) (drop z x) (set read k e)).end in
+  walk_cleared f zero k at x read r here room w =
+      let e : at ≡ r.end = ap (λ (r : Entries). r.end) (same_entries (record { end = at; list = read }) r w) in
+      let z : r.end - at ≡ 0 = omega (arith, e) in
+      ap (λ (i : ℕ). cleared_ports (drop i x)) z
+  walk_cleared f (suc n) k at x read r here room w = go (entry_at x at f) refl w (λ j b y l h g v. walk_cleared f n j b y l r h g v) where
+    go : (g : Option (Entry × ℕ)) → entry_at x at f ≡ g → after_entry (λ j. walk_from n j f) k at x read g ≡ Some r
+        → ((j b : ℕ) (y : List ℕ) (l : List Entry) → y ≡ drop b s → j + n ≤ length l → walk_from n j f b y l ≡ Some r → entries_octets s f (take n (drop j r.list)) ++ cleared_ports (drop (r.end - b) y) ≡ cleared_entries n f y)
+        → entries_octets s f (take (suc n) (drop k r.list)) ++ cleared_ports (drop (r.end - at) x) ≡ cleared_entries (suc n) f x
+    go None p w ih = absurd (none-some r w)
+    go (Some (e, z)) p w ih =
+        let L : List Entry = r.list in
+        let end : ℕ = r.end in
         let d : drop z x ≡ drop (at + z) s = ap (drop z) here ∙ drop-drop z at s in
         let room' : k + 1 + n ≤ length (set read k e) = omega (arith, room, length-set read k e) in
-        let found = walk_found s octet f n (k + 1) (at + z) (drop z x) (set read k e) d room' w in
+        let found = walk_found s octet f n (k + 1) (at + z) (drop z x) (set read k e) r d room' w in
         let gk : get_or L k no_entry ≡ e = found.before k (omega arith) ∙ get_or-set_same read k e no_entry (omega (arith, room)) in
         let z1 : suc k ≡ k + 1 = omega arith in
         let l1 : drop k L ≡ e ∷ drop (k + 1) L = drop-cons L k no_entry (omega (arith, room, found.full, length-set read k e)) ∙ (λ i. gk i ∷ drop (z1 i) L) in
-        let ends : at + z ≤ end = (walk_inside n (k + 1) f (at + z) (drop z x) (set read k e) w).0 in
+        let ends : at + z ≤ end = (walk_inside n (k + 1) f (at + z) (drop z x) (set read k e) r w).0 in
         let far : z + (end - (at + z)) ≡ end - at = omega (arith, ends) in
         let dd : drop (end - at) x ≡ drop (end - (at + z)) (drop z x) = sym (drop-drop (end - (at + z)) z x ∙ ap (λ (i : ℕ). drop i x) far) in
         let E : List ℕ = entries_octets s f (take n (drop (k + 1) L)) in

@@ -4,9 +4,9 @@
 ghost use Rattle.std.specs.Prelude.{◌≡◌, ◌+◌, ◌/◌, ◌≤◌, length, get_or, drop};
 ghost use Rattle.rds_body.specs.Body.{command_form, response_form, form_of, bitmap_of, optional_of, asking_of, answer_of, query_of, no_list, list_by, list_of, managed_of};
 
-use rds_entries::{Entries, Entry};
+use rds_entries::Entry;
 
-// What follows a frame's header; or malformed.
+// What follows a frame's header.
 #[derive(Clone, Copy)]
 pub enum Body {
     // S, ERROR, DISCONNECT.
@@ -34,17 +34,14 @@ pub enum Body {
     // The command Query, perhaps with a bitmap of ports.
     Query {
         action: u8,
-        some: bool,
-        ports: u16,
+        ports: Option<u16>,
     },
     // The response Query and the command Notify: their entries lie beside.
     List {
         action: u8,
-        some: bool,
-        ports: u16,
+        ports: Option<u16>,
         count: u8,
     },
-    Wrong,
 }
 
 // A body and the entries of its list.
@@ -61,54 +58,39 @@ pub enum Form {
     Answer,
     Query,
     List,
-    Wrong,
-}
-
-// Two octets of ports at the end, or none.
-#[derive(Clone, Copy)]
-pub enum Optional {
-    Missing,
-    There(u16),
-    Wrong,
 }
 
 #[tactic(auto, unfolding(crate::specs::Body::command_form))]
-fn command_form(action: u8) -> Form
+fn command_form(action: u8) -> Option<Form>
     ensures { result ≡ command_form action }
 {
     match action {
-        1 => Form::Asking,
-        2 => Form::Asking,
-        3 => Form::Query,
-        4 => Form::List,
-        5 => Form::Asking,
-        6 => Form::Query,
-        7 => Form::List,
-        _ => Form::Wrong,
+        1 | 2 | 5 => Some(Form::Asking),
+        3 | 6 => Some(Form::Query),
+        4 | 7 => Some(Form::List),
+        _ => None,
     }
 }
 
 #[tactic(auto, unfolding(crate::specs::Body::response_form))]
-fn response_form(action: u8) -> Form
+fn response_form(action: u8) -> Option<Form>
     ensures { result ≡ response_form action }
 {
     match action {
-        1 => Form::Answer,
-        2 => Form::Answer,
-        3 => Form::List,
-        5 => Form::Answer,
-        6 => Form::List,
-        _ => Form::Wrong,
+        1 | 2 | 5 => Some(Form::Answer),
+        3 | 6 => Some(Form::List),
+        _ => None,
     }
 }
 
-pub fn form_of(action: u8, response: bool) -> Form
+pub fn form_of(action: u8, response: bool) -> Option<Form>
     ensures { result ≡ form_of action response }
 {
     if response {
-        return response_form(action);
+        response_form(action)
+    } else {
+        command_form(action)
     }
-    command_form(action)
 }
 
 // The bitmap of ports that s begins with, as a number: port p counts 2^p.
@@ -116,185 +98,121 @@ fn bitmap(s: &[u8]) -> u16
     requires { 2 ≤ length s.now }
     ensures { result ≡ bitmap_of s.now }
 {
-    (base_lists::size(s[0]) / 2 * 2 + base_lists::size(s[1]) * 256) as u16
+    u16::from(s[0]) / 2 * 2 + u16::from(s[1]) * 256
 }
 
-// The bitmap that s is, if it is anything.
-fn optional_ports(s: &[u8]) -> Optional
+// The bitmap that s is, if it is anything; none where it is neither.
+#[tactic(auto, unfolding(crate::specs::Body::optional_of))]
+fn optional_ports(s: &[u8]) -> Option<Option<u16>>
     ensures { result ≡ optional_of s.now }
 {
-    if s.len() == 0 {
-        return Optional::Missing;
+    match s.len() {
+        0 => Some(None),
+        2 => Some(Some(bitmap(s))),
+        _ => None,
     }
-    if s.len() == 2 {
-        return Optional::There(bitmap(s));
-    }
-    Optional::Wrong
 }
 
 // The command Reserve or Release in t, whose place in the frame is `at`.
-fn asking_in(t: &[u8], at: usize, action: u8) -> Body
+#[tactic(auto, using(rds_lists::proofs::ListFacts::rest), unfolding(crate::specs::Body::asking_of))]
+fn asking_in(t: &[u8], at: usize, action: u8) -> Option<Body>
     requires { at + length t.now ≤ 1523 }
     ensures { result ≡ asking_of t.now at action }
 {
     if t.len() < 2 {
-        return Body::Wrong;
+        return None;
     }
-    let p = t[1];
-    let len = rds_entries::application_length(&t[2..]);
-    if len == 0 {
-        return Body::Wrong;
-    }
+    let len = rds_entries::application_length(&t[2..])?;
     let end = 2 + len;
-    if action == 5 {
-        if t.len() == end + 1 {
-            return Body::Asking {
-                action,
-                source: p / 16,
-                destination: p % 16,
-                start: at + 2,
-                len,
-                format: t[end] % 8,
-            };
-        }
-        return Body::Wrong;
+    if t.len() != end + usize::from(action == 5) {
+        return None;
     }
-    if t.len() == end {
-        return Body::Asking {
-            action,
-            source: p / 16,
-            destination: p % 16,
-            start: at + 2,
-            len,
-            format: 0,
-        };
-    }
-    Body::Wrong
+    Some(Body::Asking {
+        action,
+        source: t[1] / 16,
+        destination: t[1] % 16,
+        start: at + 2,
+        len,
+        format: if action == 5 { t[end] % 8 } else { 0 },
+    })
 }
 
 // The response Reserve or Release in t.
 #[tactic(auto, unfolding(crate::specs::Body::answer_of))]
-fn answer_in(t: &[u8], action: u8) -> Body
+fn answer_in(t: &[u8], action: u8) -> Option<Body>
     ensures { result ≡ answer_of t.now action }
 {
-    if action == 5 {
-        if t.len() == 3 {
-            let status = t[2];
-            if status < 4 {
-                return Body::Answer {
-                    action,
-                    format: t[1] % 8,
-                    status,
-                };
-            }
-            return Body::Wrong;
-        }
-        return Body::Wrong;
+    let end = if action == 5 { 3 } else { 2 };
+    if t.len() != end || 4 <= t[end - 1] {
+        return None;
     }
-    if t.len() == 2 {
-        let status = t[1];
-        if status < 4 {
-            return Body::Answer {
-                action,
-                format: 0,
-                status,
-            };
-        }
-        return Body::Wrong;
-    }
-    Body::Wrong
+    Some(Body::Answer {
+        action,
+        format: if action == 5 { t[1] % 8 } else { 0 },
+        status: t[end - 1],
+    })
 }
 
 // The command Query in t.
 #[tactic(auto, using(rds_lists::proofs::ListFacts::rest), unfolding(crate::specs::Body::query_of))]
-fn query_in(t: &[u8], action: u8) -> Body
+fn query_in(t: &[u8], action: u8) -> Option<Body>
     requires { 1 ≤ length t.now }
     ensures { result ≡ query_of t.now action }
 {
-    match optional_ports(&t[1..]) {
-        Optional::Missing => Body::Query {
-            action,
-            some: false,
-            ports: 0,
-        },
-        Optional::There(ports) => Body::Query {
-            action,
-            some: true,
-            ports,
-        },
-        Optional::Wrong => Body::Wrong,
-    }
+    let ports = optional_ports(&t[1..])?;
+    Some(Body::Query { action, ports })
 }
 
 // A body without a list.
+#[tactic(auto, unfolding(crate::specs::Body::no_list))]
 pub fn no_list(body: Body) -> Managed
     ensures { result ≡ no_list body }
 {
-    let none = rds_entries::none(true, 0);
-    let list = none.list;
-    Managed { body, list }
+    Managed {
+        body,
+        list: rds_entries::none(),
+    }
 }
 
 // The list whose entries end at the place `end` of t.
-fn list_after(t: &[u8], end: usize, action: u8, found: Entries) -> Managed
+fn list_after(t: &[u8], end: usize, action: u8, list: [Entry; 15]) -> Option<Managed>
     requires { (1 ≤ length t.now) × (end ≤ length t.now) }
-    ensures { result ≡ list_by action (get_or t.now 0 0 / 16) found (optional_of (drop end t.now)) }
+    ensures { result ≡ list_by action (get_or t.now 0 0 / 16) list (optional_of (drop end t.now)) }
 {
     let count = t[0] / 16;
-    let list = found.list;
-    match optional_ports(&t[end..]) {
-        Optional::Missing => Managed {
-            body: Body::List {
-                action,
-                some: false,
-                ports: 0,
-                count,
-            },
-            list,
+    let ports = optional_ports(&t[end..])?;
+    Some(Managed {
+        body: Body::List {
+            action,
+            ports,
+            count,
         },
-        Optional::There(ports) => Managed {
-            body: Body::List {
-                action,
-                some: true,
-                ports,
-                count,
-            },
-            list,
-        },
-        Optional::Wrong => no_list(Body::Wrong),
-    }
+        list,
+    })
 }
 
 // The list in t, whose place in the frame is `at`.
-fn listed(t: &[u8], at: usize, action: u8) -> Managed
+#[tactic(auto, using(rds_lists::proofs::ListFacts::rest, rds_entries::proofs::Walked::walk_inside), unfolding(crate::specs::Body::list_of))]
+fn listed(t: &[u8], at: usize, action: u8) -> Option<Managed>
     requires { (1 ≤ length t.now) × (at + length t.now ≤ 1523) }
     ensures { result ≡ list_of t.now at action }
 {
-    let count = base_lists::size(t[0] / 16);
-    let none = rds_entries::none(true, 0);
-    let empty = none.list;
-    let found = rds_entries::walk(&t[1..], at + 1, 5 < action, count, 0, empty);
-    if found.whole {
-        return list_after(t, found.end - at, action, found);
-    }
-    no_list(Body::Wrong)
+    let count = usize::from(t[0] / 16);
+    let found = rds_entries::walk(&t[1..], at + 1, 5 < action, count, 0, rds_entries::none())?;
+    list_after(t, found.end - at, action, found.list)
 }
 
 // The information field t of MANAGE_PORT, whose place in the frame is `at`.
 #[tactic(auto, unfolding(crate::specs::Body::managed_of))]
-pub fn manage(t: &[u8], at: usize, response: bool) -> Managed
+pub fn manage(t: &[u8], at: usize, response: bool) -> Option<Managed>
     requires { at + length t.now ≤ 1523 }
     ensures { result ≡ managed_of t.now at response }
 {
-    if t.len() == 0 {
-        return no_list(Body::Wrong);
-    }
-    let action = t[0] % 16;
-    match form_of(action, response) {
-        Form::Asking => no_list(asking_in(t, at, action)),
-        Form::Answer => no_list(answer_in(t, action)),
-        Form::Query => no_list(query_in(t, action)),
+    let action = *t.first()? % 16;
+    match form_of(action, response)? {
+        Form::Asking => asking_in(t, at, action).map(no_list),
+        Form::Answer => answer_in(t, action).map(no_list),
+        Form::Query => query_in(t, action).map(no_list),
         Form::List => listed(t, at, action),
-        Form::Wrong => no_list(Body::Wrong),
     }
 }

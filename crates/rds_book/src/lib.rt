@@ -20,6 +20,7 @@ pub struct Place {
     pub format: u8,
 }
 
+#[tactic(auto, unfolding(crate::specs::Book::place_of))]
 pub fn place_at(book: &[u8], p: usize) -> Place
     requires { (length book.now ≡ book_size) × (p < 16) }
     ensures { result ≡ place_of book.now p }
@@ -38,10 +39,11 @@ pub fn app_length(book: &[u8], p: usize) -> usize
     requires { (length book.now ≡ book_size) × (p < 16) }
     ensures { (result ≡ app_length book.now p) × (result ≤ app_most) }
 {
-    17 + base_lists::size(book[2 + p * PLACE_SIZE + 20])
+    17 + usize::from(book[2 + p * PLACE_SIZE + 20])
 }
 
 // The Application ID in place p, handed back as a part of the book.
+#[tactic(auto, unfolding(crate::specs::Book::app_of_is))]
 pub fn app_in(book: &[u8], p: usize) -> &[u8]
     requires { (length book.now ≡ book_size) × (p < 16) }
     ensures { result.now ≡ app_of_is book.now p }
@@ -56,69 +58,46 @@ fn zero_from(book: &[u8], at: usize, n: usize) -> bool
     requires { at + n ≤ length book.now }
     ensures { result ≡ zeros book.now at n }
 {
-    let mut bits = 0u8;
-    let mut i = 0;
-    while i < n {
-        bits = bits | book[at + i];
-        i += 1;
+    let mut bits = 0;
+    for &x in &book[at..at + n] {
+        bits |= x;
     }
     bits == 0
 }
 
+#[tactic(auto, unfolding(crate::specs::Book::port_fits))]
 fn port_fits(x: Place) -> bool
     ensures { result ≡ port_fits x }
 {
-    if x.tag <= 2 {
-        if x.own == 0 {
-            if x.peer <= 15 {
-                return x.format <= 7;
-            }
-            return false;
-        }
-        return false;
-    }
-    false
+    x.tag <= 2 && x.own == 0 && x.peer <= 15 && x.format <= 7
 }
 
+#[tactic(auto, unfolding(crate::specs::Book::is_action))]
 fn is_action(action: u8) -> bool
     ensures { result ≡ is_action action }
 {
-    if action == 1 {
-        return true;
-    }
-    if action == 2 {
-        return true;
-    }
-    action == 5
+    matches!(action, 1 | 2 | 5)
 }
 
+#[tactic(auto, unfolding(crate::specs::Book::command_fits))]
 fn command_fits(x: Place) -> bool
     ensures { result ≡ command_fits x }
 {
-    if is_action(x.tag) {
-        if 1 <= x.own {
-            if x.own <= 15 {
-                if x.peer <= 15 {
-                    return x.format == 0;
-                }
-                return false;
-            }
-            return false;
-        }
-        return false;
-    }
-    false
+    is_action(x.tag) && 1 <= x.own && x.own <= 15 && x.peer <= 15 && x.format == 0
 }
 
+#[tactic(auto, unfolding(crate::specs::Book::fits))]
 fn place_fits(p: usize, x: Place) -> bool
     ensures { result ≡ fits p x }
 {
     if p == 0 {
-        return command_fits(x);
+        command_fits(x)
+    } else {
+        port_fits(x)
     }
-    port_fits(x)
 }
 
+#[tactic(auto, unfolding(crate::specs::Book::place_ok, crate::specs::Book::app_fits))]
 fn place_ok(book: &[u8], p: usize) -> bool
     requires { (length book.now ≡ book_size) × (p < 16) }
     ensures { result ≡ place_ok book.now p }
@@ -128,22 +107,16 @@ fn place_ok(book: &[u8], p: usize) -> bool
     if x.tag == 0 {
         return zero_from(book, at, PLACE_SIZE);
     }
-    if place_fits(p, x) {
-        let n = app_length(book, p);
-        return zero_from(book, at + 4 + n, APP_MOST - n);
-    }
-    false
+    let n = app_length(book, p);
+    place_fits(p, x) && zero_from(book, at + 4 + n, APP_MOST - n)
 }
 
 fn places_ok(book: &[u8]) -> bool
     requires { length book.now ≡ book_size }
     ensures { result ≡ every (place_ok book.now) 16 }
 {
-    let mut p = 0;
-    while p < 16 {
-        if place_ok(book, p) {
-            p += 1;
-        } else {
+    for p in 0..16 {
+        if !place_ok(book, p) {
             return false;
         }
     }
@@ -151,19 +124,11 @@ fn places_ok(book: &[u8]) -> bool
 }
 
 // Whether the book has its size and keeps nothing out of range.
+#[tactic(auto, unfolding(crate::specs::Book::well_formed))]
 pub fn well_formed(book: &[u8]) -> bool
     ensures { result ≡ well_formed book.now }
 {
-    if book.len() == BOOK_SIZE {
-        if book[0] <= 1 {
-            if book[1] <= 7 {
-                return places_ok(book);
-            }
-            return false;
-        }
-        return false;
-    }
-    false
+    book.len() == BOOK_SIZE && book[0] <= 1 && book[1] <= 7 && places_ok(book)
 }
 
 // Keeps these fields and this Application ID in place p.
@@ -172,21 +137,20 @@ pub fn keep(book: &mut [u8], p: usize, x: Place, app: &[u8])
     ensures { book.new ≡ keep book.old p x app.now }
 {
     let at = 2 + p * PLACE_SIZE;
-    let fields = [x.tag, x.own, x.peer, x.format];
-    let zero = [0u8; APP_MOST];
+    let zero = [0; APP_MOST];
     let n = app.len();
-    base_lists::store(&mut *book, at, &fields);
-    base_lists::store(&mut *book, at + 4, app);
+    base_lists::store(book, at, &[x.tag, x.own, x.peer, x.format]);
+    base_lists::store(book, at + 4, app);
     base_lists::store(book, at + 4 + n, &zero[n..]);
 }
 
 // Makes place p free.
+#[tactic(auto, unfolding(crate::specs::Book::place_octets, crate::specs::Book::keep, crate::specs::Book::cleared))]
 pub fn clear(book: &mut [u8], p: usize)
     requires { (length book.old ≡ book_size) × (p < 16) }
     ensures { book.new ≡ cleared book.old p }
 {
-    let zero = [0u8; PLACE_SIZE];
-    base_lists::store(book, 2 + p * PLACE_SIZE, &zero);
+    base_lists::store(book, 2 + p * PLACE_SIZE, &[0; PLACE_SIZE]);
 }
 
 // Keeps these fields in place `to`, with the Application ID of place `from`.
@@ -204,16 +168,5 @@ pub fn carry(book: &mut [u8], from: usize, to: usize, x: Place)
 pub fn same_octets(s: &[u8], t: &[u8]) -> bool
     ensures { result ≡ same s.now t.now }
 {
-    if s.len() == t.len() {
-        let mut k = 0;
-        while k < t.len() {
-            if s[k] == t[k] {
-                k += 1;
-            } else {
-                return false;
-            }
-        }
-        return true;
-    }
-    false
+    s == t
 }

@@ -1,6 +1,7 @@
 -- Promise 8, of one call: a command from the peer is answered by one frame, an ERROR command and a response by none. Assumes nothing.
 use mathlib.Core.Path.{◌≡◌, refl, sym, ◌∙◌}
 use mathlib.Core.List.{List, []}
+use Rattle.std.specs.Prelude.{Option, Some, None}
 use mathlib.Core.Bool.{Bool, true, false}
 use mathlib.Core.Logic.{◌⊎◌, inl, inr}
 use Prim.Native.Nat.{ℕ, ◌-◌, ◌%◌, ◌≤◌}
@@ -11,7 +12,7 @@ use borrow.Author.Tests.{ltb-false, eqb-true}
 use Rattle.base_lists.specs.Seq.{pick, put}
 use Rattle.base_lists.proofs.StoresAndParts.{told, true_false}
 use Rattle.base_octets.proofs.StoredAndRead.{get_same}
-use Rattle.base_numbers.specs.declared.Refusal.TheVariants.{WrongSize, WrongFrame}
+use Rattle.base_numbers.specs.declared.Refusal.TheVariants.{WrongSize}
 use Rattle.rds_lists.specs.Sizes.{information_most}
 use Rattle.rds_frame.specs.declared.Kind.{Kind}
 use Rattle.rds_frame.specs.declared.Kind.TheVariants as K
@@ -19,9 +20,10 @@ use Rattle.rds_frame.specs.declared.Head.{Head}
 use Rattle.rds_frame.specs.Frame.{head_of}
 use Rattle.rds_body.specs.declared.Body.{Body}
 use Rattle.rds_body.specs.declared.Body.TheVariants as B
-use Rattle.rds_body.specs.Body.{no_list}
+use Rattle.rds_body.specs.declared.Managed.{Managed}
+use Rattle.rds_body.specs.Body.{no_list, lone}
 use Rattle.rds_reading.specs.declared.Frame.{Frame}
-use Rattle.rds_reading.specs.Read.{empty_of, u_body, body_by, body_after, frame_of, sound_body}
+use Rattle.rds_reading.specs.Read.{empty_of, u_body, body_by, body_after, framed, frame_by, frame_of}
 use Rattle.rds_book.specs.Book.{place_of, well_formed}
 use Rattle.rds_rows.specs.declared.Row.{Row}
 use Rattle.rds_rows.specs.declared.Row.TheVariants.{R14}
@@ -31,7 +33,8 @@ use Rattle.rds_turn.specs.Turn as T
 use Rattle.rds_sending.specs.Sent.{answer_frame, error_frame}
 use Rattle.rds_lent.specs.Left.{Left, refused, sending_least, lent_well}
 use Rattle.rds_receiving.specs.Receiving.{reply_of, turn_words, turned, turn_in, receive_frame, from_peer, receive_of}
-use Rattle.rds_book_laws.specs.AnsweredFrame.{is_command, AnsweredFrame}
+use Rattle.rds_book_laws.specs.AnsweredFrame.{is_command, commands, AnsweredFrame}
+use Rattle.rds_book_laws.proofs.FrameFacts.{Each}
 use Rattle.rds_book_laws.proofs.AnsweredOnce.{reserve_event, release_event, answer_event, answered_one, error_one}
 
 -- a body without Action
@@ -40,9 +43,8 @@ Plain B.Empty = Unit
 Plain (B.Information a l) = Unit
 Plain (B.Asking n p d a l f) = ⊥
 Plain (B.Answer n f t) = ⊥
-Plain (B.Query n o p) = ⊥
-Plain (B.List n o p c) = ⊥
-Plain B.Wrong = Unit
+Plain (B.Query n p) = ⊥
+Plain (B.List n p c) = ⊥
 
 -- an ERROR frame has such a body
 abbrev ErrorPlain : Kind → Body → Type 0
@@ -50,32 +52,39 @@ ErrorPlain (K.I a ns nr r) body = Unit
 ErrorPlain (K.S a nr r) body = Unit
 ErrorPlain (K.Ui nu) body = Unit
 ErrorPlain (K.U m response) body = eqb m 1 ≡ true → Plain body
-ErrorPlain K.Wrong body = Unit
 
-wrong_plain : (k : Kind) → ErrorPlain k B.Wrong
-wrong_plain (K.I a ns nr r) = tt
-wrong_plain (K.S a nr r) = tt
-wrong_plain (K.Ui nu) = tt
-wrong_plain (K.U m response) = λ e. tt
-wrong_plain K.Wrong = tt
-
-kind_plain : (s : List ℕ) (at : ℕ) (ads : Bool) (k : Kind) → ErrorPlain k (body_by s at ads k).body
+kind_plain : (s : List ℕ) (at : ℕ) (ads : Bool) (k : Kind) → Each (λ (m : Managed). ErrorPlain k m.body) (body_by s at ads k)
 unfolding body_by u_body no_list empty_of
 kind_plain s at ads (K.I a ns nr r) = tt
-kind_plain s at ads (K.S a nr r) = tt
-kind_plain s at ads (K.Ui nu) = tt
-kind_plain s at ads (K.U m response) = λ e. rw e (go (eqb (length s) at)) where
-  go : (x : Bool) → Plain (pick x B.Empty B.Wrong)
+kind_plain s at ads (K.S a nr r) = go (eqb (length s) at) where
+  go : (x : Bool) → Each (λ (m : Managed). Unit) (lone (pick x (Some B.Empty) None))
   go true = tt
   go false = tt
-kind_plain s at ads K.Wrong = tt
+kind_plain s at ads (K.Ui nu) = tt
+kind_plain s at ads (K.U m response) = go (eqb m 1) refl (eqb (length s) at) _ where
+  anything : (e : eqb m 1 ≡ false) (o : Option Managed) → Each (λ (x : Managed). eqb m 1 ≡ true → Plain x.body) o
+  anything e (Some x) = λ f. true_false (sym f ∙ e)
+  anything e None = tt
 
-frame_plain : (s : List ℕ) (network : Bool) → ErrorPlain (head_of s network).kind (frame_of s network).body
-unfolding frame_of body_after no_list
-frame_plain s network = go (leb (length s - (head_of s network).end) information_most) where
-  go : (x : Bool) → ErrorPlain (head_of s network).kind (pick x (body_by s (head_of s network).end (head_of s network).ads (head_of s network).kind) (no_list B.Wrong)).body
-  go true = kind_plain s (head_of s network).end (head_of s network).ads (head_of s network).kind
-  go false = wrong_plain (head_of s network).kind
+  go : (y : Bool) → eqb m 1 ≡ y → (x : Bool) (o : Option Managed) → Each (λ (x : Managed). eqb m 1 ≡ true → Plain x.body) (pick y (lone (pick x (Some B.Empty) None)) o)
+  go true e true o = λ f. tt
+  go true e false o = tt
+  go false e x o = anything e o
+
+framed_plain : (h : Head) (o : Option Managed) → Each (λ (m : Managed). ErrorPlain h.kind m.body) o → Each (λ (f : Frame). ErrorPlain f.head.kind f.body) (framed h o)
+framed_plain h (Some m) p = p
+framed_plain h None p = tt
+
+frame_plain : (s : List ℕ) (network : Bool) → Each (λ (f : Frame). ErrorPlain f.head.kind f.body) (frame_of s network)
+unfolding frame_of body_after
+frame_plain s network = go (head_of s network) where
+  by : (h : Head) (x : Bool) → Each (λ (m : Managed). ErrorPlain h.kind m.body) (pick x (body_by s h.end h.ads h.kind) None)
+  by h true = kind_plain s h.end h.ads h.kind
+  by h false = tt
+
+  go : (h : Option Head) → Each (λ (f : Frame). ErrorPlain f.head.kind f.body) (frame_by s h)
+  go (Some h) = framed_plain h (body_after s h) (by h (leb (length s - h.end) information_most))
+  go None = tt
 
 -- events 1 and 3 send a frame
 abbrev sends : Turn → Bool
@@ -127,9 +136,8 @@ module _ (b app : List ℕ) where
   command_sends m (B.Information a l) n = plain_sends m
   command_sends m (B.Asking c s d start len o) n = acting m (T.asking_turn b app c s (d % 16) start len o) (asking_sends c s (d % 16) start len o) n
   command_sends m (B.Answer c g t) n = plain_sends m
-  command_sends m (B.Query c o p) n = acting m (T.unbuilt c m) refl n
-  command_sends m (B.List c o p i) n = acting m (T.unbuilt c m) refl n
-  command_sends m B.Wrong n = plain_sends m
+  command_sends m (B.Query c p) n = acting m (T.unbuilt c m) refl n
+  command_sends m (B.List c p i) n = acting m (T.unbuilt c m) refl n
 
   told_none : (row : Row) (status format : ℕ) (changed : Bool) → event_of row ≡ 2 → sends (T.told b row status format changed) ≡ false
   unfolding T.told
@@ -167,9 +175,8 @@ module _ (b app : List ℕ) where
   response_none ads m (B.Information a l) = plain_none ads m
   response_none ads m (B.Asking c s d start len o) = plain_none ads m
   response_none ads m (B.Answer c g t) = answer_none c g t
-  response_none ads m (B.Query c o p) = plain_none ads m
-  response_none ads m (B.List c o p i) = plain_none ads m
-  response_none ads m B.Wrong = plain_none ads m
+  response_none ads m (B.Query c p) = plain_none ads m
+  response_none ads m (B.List c p i) = plain_none ads m
 
   -- a frame is sent exactly for a command
   turn_sends : (ads : Bool) (body : Body) (k : Kind) → ErrorPlain k body → sends (T.turn_by b app ads body k) ≡ is_command k
@@ -179,7 +186,6 @@ module _ (b app : List ℕ) where
   turn_sends ads body (K.Ui nu) n = refl
   turn_sends ads body (K.U m true) n = response_none ads m body
   turn_sends ads body (K.U m false) n = command_sends m body n
-  turn_sends ads body K.Wrong n = refl
 
   sent_one : (t : Turn) (h : Head) → sends t ≡ true → 2 ≤ length (reply_of b t h)
   sent_one t h e = go (told (eqb (event_of t.row) 1)) where
@@ -204,32 +210,26 @@ answer_long b o a w = go (ltb (length a) 16) refl w where
   go false e k = ltb-false (length a) 16 e
 
 module _ (b o a s : List ℕ) where
-  abbrev frame : Frame
-  frame = frame_of s (from_peer b)
-
-  sent : sends (turn_in b s frame) ≡ is_command frame.head.kind
-  unfolding frame_of
-  sent = turn_sends b (T.application_of s frame.body) frame.head.ads frame.body frame.head.kind (frame_plain s (from_peer b))
-
   -- what an accepted call answers
-  abbrev Sent : Left → Type 0
-  Sent x = x.number ≡ 0 → (is_command frame.head.kind ≡ true → 2 ≤ get_or x.answer 0 0) × (is_command frame.head.kind ≡ false → get_or x.answer 0 0 ≡ 0)
+  abbrev Sent : Option Frame → Left → Type 0
+  Sent f x = x.number ≡ 0 → (commands f ≡ true → 2 ≤ get_or x.answer 0 0) × (commands f ≡ false → get_or x.answer 0 0 ≡ 0)
 
-  took : 16 ≤ length a → Sent (turned b o a (T.application_of s frame.body) frame.head (turn_in b s frame))
+  took : (f : Frame) → ErrorPlain f.head.kind f.body → 16 ≤ length a → Sent (Some f) (turned b o a (T.application_of s f.body) f.head (turn_in b s f))
   unfolding turned turn_words
-  took l z =
-      let t = turn_in b s frame in
-      let n = length (reply_of b t frame.head) in
+  took f plain l z =
+      let t = turn_in b s f in
+      let n = length (reply_of b t f.head) in
+      let sent : sends t ≡ is_command f.head.kind = turn_sends b (T.application_of s f.body) f.head.ads f.body f.head.kind plain in
       let first : get_or (put a 0 (turn_words n t)) 0 0 ≡ n = get_same (turn_words n t) a 0 0 l (omega arith) in
-      (λ e. rw first (sent_one b (T.application_of s frame.body) t frame.head (sent ∙ e)), λ e. first ∙ sent_none b (T.application_of s frame.body) t frame.head (sent ∙ e))
+      (λ e. rw first (sent_one b (T.application_of s f.body) t f.head (sent ∙ e)), λ e. first ∙ sent_none b (T.application_of s f.body) t f.head (sent ∙ e))
 
-  received : Sent (receive_of b o a s)
+  received : Sent (frame_of s (from_peer b)) (receive_of b o a s)
   unfolding receive_of receive_frame
-  received = go (lent_well b o a) refl (sound_body frame.body) where
-    go : (x : Bool) → lent_well b o a ≡ x → (y : Bool) → Sent (pick x (pick y (turned b o a (T.application_of s frame.body) frame.head (turn_in b s frame)) (refused WrongFrame b o a)) (refused WrongSize b o a))
-    go true w true = took (answer_long b o a w)
-    go true w false = λ z. absurd (omega (arith, z))
-    go false w y = λ z. absurd (omega (arith, z))
+  received = go (lent_well b o a) refl (frame_of s (from_peer b)) (frame_plain s (from_peer b)) where
+    go : (x : Bool) → lent_well b o a ≡ x → (f : Option Frame) → Each (λ (f : Frame). ErrorPlain f.head.kind f.body) f → Sent f (pick x (receive_frame b o a s f) (refused WrongSize b o a))
+    go true w (Some f) p = took f p (answer_long b o a w)
+    go true w None p = λ z. absurd (omega (arith, z))
+    go false w f p = λ z. absurd (omega (arith, z))
 
   -- PROMISE 8, of one call
   pub answered_frame : AnsweredFrame b o a s

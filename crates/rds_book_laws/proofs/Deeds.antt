@@ -229,9 +229,8 @@ module _ (b : List ℕ) (f : Formed b) (frame : List ℕ) where
   command_deed m (B.Information a l) h = plain_deed b f frame _ m
   command_deed m (B.Asking n s d start len o) h = asking_deed b f frame (T.application_in frame start) n s (d % 16) start len (omega arith) h h.same h.app o
   command_deed m (B.Answer n g t) h = plain_deed b f frame _ m
-  command_deed m (B.Query n o p) h = unbuilt_deed b f frame _ n m
-  command_deed m (B.List n o p c) h = unbuilt_deed b f frame _ n m
-  command_deed m B.Wrong h = plain_deed b f frame _ m
+  command_deed m (B.Query n p) h = unbuilt_deed b f frame _ n m
+  command_deed m (B.List n p c) h = unbuilt_deed b f frame _ n m
 
   response_deed : (ads : Bool) (m : ℕ) (body : Body) → BodyFacts frame body → Deed b (app body) frame (T.response_turn b ads m body)
   unfolding T.response_turn T.application_of
@@ -239,9 +238,8 @@ module _ (b : List ℕ) (f : Formed b) (frame : List ℕ) where
   response_deed ads m (B.Information a l) h = answered_deed b f frame _ ads m
   response_deed ads m (B.Asking n s d start len o) h = answered_deed b f frame _ ads m
   response_deed ads m (B.Answer n g t) h = answer_deed b f frame _ n g t h
-  response_deed ads m (B.Query n o p) h = answered_deed b f frame _ ads m
-  response_deed ads m (B.List n o p c) h = answered_deed b f frame _ ads m
-  response_deed ads m B.Wrong h = answered_deed b f frame _ ads m
+  response_deed ads m (B.Query n p) h = answered_deed b f frame _ ads m
+  response_deed ads m (B.List n p c) h = answered_deed b f frame _ ads m
 
   -- A FRAME'S DEED
   pub deed : (ads : Bool) (body : Body) (kind : Kind) → BodyFacts frame body → Deed b (app body) frame (T.turn_by b (app body) ads body kind)
@@ -250,4 +248,3 @@ module _ (b : List ℕ) (f : Formed b) (frame : List ℕ) where
   deed ads body (K.S a nr r) h = quiet_deed b f frame (app body)
   deed ads body (K.Ui nu) h = quiet_deed b f frame (app body)
   deed ads body (K.U m response) h = either b f frame (app body) response _ _ (response_deed ads m body h) (command_deed m body h)
-  deed ads body K.Wrong h = quiet_deed b f frame (app body)

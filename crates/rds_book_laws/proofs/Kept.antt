@@ -1,6 +1,7 @@
 -- Promise 6: a well-formed book stays so over every call of the book. Assumes nothing.
 use mathlib.Core.Path.{◌≡◌, refl, sym, ◌∙◌}
 use mathlib.Core.List.{List, [], ◌∷◌}
+use Rattle.std.specs.Prelude.{Option, Some, None}
 use mathlib.Core.Bool.{Bool, true, false}
 use mathlib.Core.Logic.{◌⊎◌, inl, inr}
 use Prim.Native.Nat.{ℕ, zero, suc, ◌+◌, ◌*◌, ◌≤◌, ◌<◌}
@@ -11,7 +12,8 @@ use lib.Seq.{get_or-append-add}
 use borrow.Author.Tests.{ltb-false, eqb-true, eqb-false}
 use Rattle.base_lists.specs.Seq.{pick, bit}
 use Rattle.base_lists.proofs.StoresAndParts.{bit_le, true_false}
-use Rattle.rds_reading.specs.Read.{frame_of, sound_body}
+use Rattle.rds_reading.specs.Read.{frame_of}
+use Rattle.rds_reading.specs.declared.Frame.{Frame}
 use Rattle.rds_book.specs.declared.Place.{Place}
 use Rattle.rds_book.specs.Book.{book_size, place_size, app_most, place_at_is, place_of, app_of_is, keep, cleared, well_formed}
 use Rattle.rds_turn.specs.declared.Turn.{Turn}
@@ -24,7 +26,7 @@ use Rattle.rds_receiving.specs.Receiving.{reservation, book_by, turned, turn_in,
 use Rattle.rds_book_laws.specs.Formed.{PortRange, InRange, Zero, IsApp, Used, PlaceFormed, Formed, Octets, StaysFormed}
 use Rattle.rds_book_laws.proofs.FormedTest.{free_tag, formed_of, of_formed}
 use Rattle.rds_book_laws.proofs.Stores.{app_kept, keep_formed, clear_formed}
-use Rattle.rds_book_laws.proofs.FrameFacts.{body_facts}
+use Rattle.rds_book_laws.proofs.FrameFacts.{Each, BodyFacts, body_facts}
 use Rattle.rds_book_laws.proofs.Deeds.{Deed, still, reserves, frees, gains, ends, loses, command_range, deed}
 
 -- a place that keeps something keeps an Application ID
@@ -115,10 +117,11 @@ book_formed b app frame t f (loses e c o n) =
     let high : t.own ≤ 15 = rw o.own (command_range b f o.there).own_most in
     rw e (clear_formed _ 0 (clear_formed b t.own f (omega (arith, high))) (omega arith))
 
-pub turn_deed : (b s : List ℕ) → Formed b → Octets s → Deed b (application_of s (frame_of s (from_peer b)).body) s (turn_in b s (frame_of s (from_peer b)))
-turn_deed b s f octet =
-    let g = frame_of s (from_peer b) in
-    deed b f s g.head.ads g.body g.head.kind (body_facts s octet (from_peer b))
+pub turn_deed : (b s : List ℕ) → Formed b → Octets s → Each (λ (g : Frame). Deed b (application_of s g.body) s (turn_in b s g)) (frame_of s (from_peer b))
+turn_deed b s f octet = go (frame_of s (from_peer b)) (body_facts s octet (from_peer b)) where
+  go : (o : Option Frame) → Each (λ (g : Frame). BodyFacts s g.body) o → Each (λ (g : Frame). Deed b (application_of s g.body) s (turn_in b s g)) o
+  go (Some g) h = deed b f s g.head.ads g.body g.head.kind h
+  go None h = tt
 
 -- `rds_ports_fresh`: every place is free
 pub fresh_zero : (network : Bool) (formats p : ℕ) → p < 16 → Zero (fresh_book network formats) (place_at_is p) place_size
@@ -166,7 +169,10 @@ module _ (b o a : List ℕ) where
     pub receive_formed : (s : List ℕ) → Octets s → Formed (receive_of b o a s).book
     unfolding receive_of receive_frame turned
     receive_formed s octet =
-        either (lent_well b o a) _ _ (λ w. either (sound_body (frame_of s (from_peer b)).body) _ _ (λ c. book_formed b _ s _ f (turn_deed b s f octet)) (λ c. f)) (λ w. f)
+        either (lent_well b o a) _ _ (λ w. go (frame_of s (from_peer b)) (turn_deed b s f octet)) (λ w. f) where
+          go : (g : Option Frame) → Each (λ (g : Frame). Deed b (application_of s g.body) s (turn_in b s g)) g → Formed (receive_frame b o a s g).book
+          go (Some g) d = book_formed b _ s _ f d
+          go None d = f
 
 pub abandon_formed : (b : List ℕ) → Formed b → Formed (abandon_after b)
 unfolding abandon_after

@@ -1,5 +1,6 @@
 -- Promise 10: a refused call leaves book, output and answer as they were. Assumes nothing.
 use mathlib.Core.Path.{refl}
+use Rattle.std.specs.Prelude.{Option, Some, None}
 use mathlib.Core.List.{List}
 use mathlib.Core.Bool.{Bool, true, false}
 use mathlib.Core.Logic.{inl, inr}
@@ -8,7 +9,8 @@ use lib.ListN.{length}
 use lib.Dec.{ltb, eqb}
 use Rattle.base_lists.specs.Seq.{pick}
 use Rattle.rds_book.specs.Book.{book_size, well_formed}
-use Rattle.rds_reading.specs.Read.{frame_of, sound_body}
+use Rattle.rds_reading.specs.Read.{frame_of}
+use Rattle.rds_reading.specs.declared.Frame.{Frame}
 use Rattle.rds_lent.specs.Left.{Left, lent_well}
 use Rattle.rds_lent.specs.Asked.{outstanding, is_reserved, not_now, out_of_range_is, is_app, sending}
 use Rattle.rds_ports.specs.Ports.{reserve_in, reserve_of, release_in, release_of, again_in, again_of, abandon_number, abandon_after}
@@ -44,7 +46,10 @@ module _ (b o a : List ℕ) where
   pub receive_refusing : (s : List ℕ) → Refusing (receive_of b o a s) b o a
   unfolding receive_of receive_frame turned
   receive_refusing s =
-      either (lent_well b o a) _ _ (either (sound_body (frame_of s (from_peer b)).body) _ _ (inl refl) (inr refl)) (inr refl)
+      either (lent_well b o a) _ _ (go (frame_of s (from_peer b))) (inr refl) where
+        go : (f : Option Frame) → Refusing (receive_frame b o a s f) b o a
+        go (Some f) = inl refl
+        go None = inr refl
 
 pub abandon_refusing : (b : List ℕ) → RefusingBook (abandon_number b) (abandon_after b) b
 unfolding abandon_number abandon_after

@@ -1,8 +1,10 @@
 -- A header that was read has narrow fields, and is written as it was but for its spare bits. Assumes nothing.
 use Prim.Native.Nat.{ℕ, suc, ◌+◌, ◌-◌, ◌*◌, ◌/◌, ◌%◌, ◌<◌, ◌≤◌}
 use native.Mathlib.Omega.{arith}
-use mathlib.Core.Path.{◌≡◌, refl, sym, ap, ◌∙◌}
+use mathlib.Core.Path.{◌≡◌, refl, sym, ap, subst, ◌∙◌}
 use mathlib.Core.List.{List, [], ◌∷◌, ◌++◌, append-nil}
+use Rattle.std.specs.Prelude.{Option, Some, None}
+use Rattle.std.proofs.lemmas.Option.{none-some}
 use mathlib.Core.Bool.{Bool, true, false}
 use mathlib.Core.Logic.{◌⊎◌, inl, inr}
 use lib.ListN.{length, get_or, take}
@@ -14,12 +16,12 @@ use Rattle.base_lists.proofs.StoresAndParts.{true_false, every_at, told}
 use Rattle.rds_frame.specs.declared.Kind.{Kind}
 use Rattle.rds_frame.specs.declared.Kind.TheVariants as K
 use Rattle.rds_frame.specs.declared.Head.{Head}
-use Rattle.rds_frame.specs.Frame.{flag, sacked, commanded, answered, responds, u_kind, kind_of, bad_head, ports_after, head_of}
+use Rattle.rds_frame.specs.Frame.{flag, sacked, commanded, answered, responds, u_kind, kind_of, ports_after, headed, head_of}
 use Rattle.rds_pieces.specs.Octets.{ports_octet, kind_octets, kind_length}
 use Rattle.rds_encoding.specs.Encoding.{head_octets}
 use Rattle.rds_written.proofs.Narrow.{NarrowKind, NarrowHead}
 use Rattle.rds_written.proofs.Headers.{head, responds_twice, one_octet, two_octets}
-use Rattle.rds_written.proofs.Written.{u_narrow}
+use Rattle.rds_written.proofs.Written.{same_kinds, same_heads, u_narrow}
 use Rattle.rds_cleared.specs.Cleared.{cleared_head}
 
 -- a bit as it was read
@@ -43,48 +45,48 @@ record Ports (s : List ℕ) (at : ℕ) (h : Head) (ads : Bool) (k : Kind) : Type
   ended : h.end ≡ at + bit h.ads
 
 module _ (s : List ℕ) (octet : (i : ℕ) → get_or s i 0 < 256) (k : Kind) (at : ℕ) where
-  ports_kept : (ads : Bool) → ((ports_after s k ads at).kind ≡ K.Wrong → ⊥) → Ports s at (ports_after s k ads at) ads k
+  ports_kept : (ads : Bool) (h : Head) → ports_after s k ads at ≡ Some h → Ports s at h ads k
   unfolding ports_after
-  ports_kept true some = go (leb (length s) at) refl some where
+  ports_kept true h e = go (leb (length s) at) refl e where
     there : Head
     there = record { kind = k; ads = true; source = get_or s at 0 / 16; destination = get_or s at 0 % 16; end = at + 1 }
 
-    go : (b : Bool) → leb (length s) at ≡ b → ((pick b bad_head there).kind ≡ K.Wrong → ⊥) → Ports s at (pick b bad_head there) true k
-    go true p some = absurd (some refl)
-    go false p some =
+    go : (b : Bool) → leb (length s) at ≡ b → pick b None (Some there) ≡ Some h → Ports s at h true k
+    go true p e = absurd (none-some h e)
+    go false p e =
         let o = octet at in
         let same : get_or s at 0 ≡ ports_octet (get_or s at 0 / 16) (get_or s at 0 % 16) = omega (arith, o) in
         let z : at + 1 ≡ suc at = omega arith in
-        record {
+        subst (λ (h : Head). Ports s at h true k) (same_heads there h e) (record {
           same_kind = refl;
           same_ads = refl;
           narrow = record { source_narrow = omega (arith, o); destination_narrow = omega arith; no_ports = λ e. true_false e };
           octets = ap (λ (n : ℕ). take n s) z ∙ take-suc s at 0 (leb-false (length s) at p) ∙ ap (λ (x : ℕ). take at s ++ (x ∷ [])) same;
           ended = refl;
-        }
-  ports_kept false some = record {
+        })
+  ports_kept false h e = subst (λ (h : Head). Ports s at h false k) (same_heads (record { kind = k; ads = false; source = 0; destination = 0; end = at }) h e) (record {
     same_kind = refl;
     same_ads = refl;
     narrow = record { source_narrow = omega arith; destination_narrow = omega arith; no_ports = λ e. (refl, refl) };
     octets = sym (append-nil (take at s));
     ended = omega arith;
-  }
+  })
 
 -- a kind that was read in octets b and c: it is narrow, and its octets are these but for the spare bits
 record KindKept (network : Bool) (b c : ℕ) (k : Kind) : Type 0 where
   narrow : NarrowKind k
   octets : (t : List ℕ) → take (kind_length k) (kind_octets k (flag 8 b) network) ++ t ≡ cleared_head k (b ∷ c ∷ t)
 
-u_is : (m : ℕ) (response : Bool) → (u_kind m response ≡ K.Wrong → ⊥) → u_kind m response ≡ K.U m response
+u_is : (m : ℕ) (response : Bool) (k : Kind) → u_kind m response ≡ Some k → K.U m response ≡ k
 unfolding u_kind
-u_is m true h = go (answered m) h where
-  go : (b : Bool) → (pick b (K.U m true) K.Wrong ≡ K.Wrong → ⊥) → pick b (K.U m true) K.Wrong ≡ K.U m true
-  go true h = refl
-  go false h = absurd (h refl)
-u_is m false h = go (commanded m) h where
-  go : (b : Bool) → (pick b (K.U m false) K.Wrong ≡ K.Wrong → ⊥) → pick b (K.U m false) K.Wrong ≡ K.U m false
-  go true h = refl
-  go false h = absurd (h refl)
+u_is m true k h = go (answered m) h where
+  go : (b : Bool) → pick b (Some (K.U m true)) None ≡ Some k → K.U m true ≡ k
+  go true h = same_kinds (K.U m true) k h
+  go false h = absurd (none-some k h)
+u_is m false k h = go (commanded m) h where
+  go : (b : Bool) → pick b (Some (K.U m false)) None ≡ Some k → K.U m false ≡ k
+  go true h = same_kinds (K.U m false) k h
+  go false h = absurd (none-some k h)
 
 second_octet : (c : ℕ) → c < 256 → c % 4 ≡ 3 → c / 32 % 8 * 32 + c / 4 % 8 % 8 * 4 + 3 ≡ c
 second_octet c h e =
@@ -134,16 +136,16 @@ module _ (network : Bool) (b c : ℕ) (hb : b < 128) (hc : c < 256) where
       (λ i. 96 + bit_flag 8 b i * 8 + bit_flag 4 b i * 4) ∙ rw (above 96 b (omega (arith, high, ui, bit5, hb))) (s_octet (b - 96) (omega (arith, high, ui, bit5, hb))) in
       record { narrow = (omega (arith, hc), omega arith); octets = λ t i. x i ∷ second_octet c hc sack i ∷ t }
 
-  u_kept : 64 ≤ b → (b / 32 ≡ 2 → ⊥) → (b / 16 % 2 ≡ 0 → ⊥) → (u_kind (c % 16) (responds (flag 4 b) network) ≡ K.Wrong → ⊥) → KindKept network b c (u_kind (c % 16) (responds (flag 4 b) network))
+  u_kept : 64 ≤ b → (b / 32 ≡ 2 → ⊥) → (b / 16 % 2 ≡ 0 → ⊥) → (k : Kind) → u_kind (c % 16) (responds (flag 4 b) network) ≡ Some k → KindKept network b c k
   unfolding NarrowKind kind_length kind_octets cleared_head
-  u_kept high ui bit5 some =
+  u_kept high ui bit5 k some =
       let r : Bool = responds (flag 4 b) network in
-      let e : u_kind (c % 16) r ≡ K.U (c % 16) r = u_is (c % 16) r some in
+      let e : K.U (c % 16) r ≡ k = u_is (c % 16) r k some in
       let cr : bit (responds r network) ≡ b / 4 % 2 = ap bit (responds_twice (flag 4 b) network) ∙ bit_flag 4 b in
       let x : 112 + bit (flag 8 b) * 8 + bit (responds r network) * 4 ≡ b / 4 * 4 =
       (λ i. 112 + bit_flag 8 b i * 8 + cr i * 4) ∙ rw (above 112 b (omega (arith, high, ui, bit5, hb))) (u_octet (b - 112) (omega (arith, high, ui, bit5, hb))) in
       let y : c % 16 % 16 ≡ c % 16 = omega arith in
-      record { narrow = u_narrow c r some; octets = rw e (λ t i. x i ∷ y i ∷ t) }
+      subst (KindKept network b c) e (record { narrow = u_narrow c r (K.U (c % 16) r) (some ∙ ap Some (sym e)); octets = λ t i. x i ∷ y i ∷ t })
 
 -- a header that was read: it is narrow, and its octets are those of the frame but for the spare bits
 pub record HeadKept (s : List ℕ) (network : Bool) (h : Head) : Type 0 where
@@ -162,10 +164,10 @@ module _ (s : List ℕ) (network : Bool) (h : Head) where
         octets = (λ i. take (kind_length (p.same_kind i)) (kind_octets (p.same_kind i) (p.same_ads i) network) ++ t) ∙ f t ∙ (λ i. cleared_head (sym p.same_kind i) (sym p.octets i));
       }
 
-kind_kept : (network : Bool) (b c : ℕ) → b < 128 → c < 256 → (b / 32 ≡ 2 → ⊥) → (kind_of b c network ≡ K.Wrong → ⊥) → KindKept network b c (kind_of b c network)
+kind_kept : (network : Bool) (b c : ℕ) → b < 128 → c < 256 → (b / 32 ≡ 2 → ⊥) → (k : Kind) → kind_of b c network ≡ Some k → KindKept network b c k
 unfolding kind_of
-kind_kept network b c hb hc ui = go (ltb b 64) refl (sacked c) refl (eqb (b / 16 % 2) 0) refl where
-  u : Kind
+kind_kept network b c hb hc ui k = go (ltb b 64) refl (sacked c) refl (eqb (b / 16 % 2) 0) refl where
+  u : Option Kind
   u = u_kind (c % 16) (responds (flag 4 b) network)
 
   i : Kind
@@ -175,12 +177,12 @@ kind_kept network b c hb hc ui = go (ltb b 64) refl (sacked c) refl (eqb (b / 16
   s = K.S (flag 4 b) (c / 32) (c / 4 % 8)
 
   go : (x : Bool) → ltb b 64 ≡ x → (y : Bool) → sacked c ≡ y → (z : Bool) → eqb (b / 16 % 2) 0 ≡ z
-      → (pick x (pick y i K.Wrong) (pick z (pick y s K.Wrong) u) ≡ K.Wrong → ⊥) → KindKept network b c (pick x (pick y i K.Wrong) (pick z (pick y s K.Wrong) u))
-  go true p true q z r some = i_kept network b c hb hc (ltb-true b 64 p) (eqb-true (c % 4) 3 q)
-  go true p false q z r some = absurd (some refl)
-  go false p true q true r some = s_kept network b c hb hc (ltb-false b 64 p) ui (eqb-true (b / 16 % 2) 0 r) (eqb-true (c % 4) 3 q)
-  go false p false q true r some = absurd (some refl)
-  go false p y q false r some = u_kept network b c hb hc (ltb-false b 64 p) ui (eqb-false (b / 16 % 2) 0 r) some
+      → pick x (pick y (Some i) None) (pick z (pick y (Some s) None) u) ≡ Some k → KindKept network b c k
+  go true p true q z r e = subst (KindKept network b c) (same_kinds i k e) (i_kept network b c hb hc (ltb-true b 64 p) (eqb-true (c % 4) 3 q))
+  go true p false q z r e = absurd (none-some k e)
+  go false p true q true r e = subst (KindKept network b c) (same_kinds s k e) (s_kept network b c hb hc (ltb-false b 64 p) ui (eqb-true (b / 16 % 2) 0 r) (eqb-true (c % 4) 3 q))
+  go false p false q true r e = absurd (none-some k e)
+  go false p y q false r e = u_kept network b c hb hc (ltb-false b 64 p) ui (eqb-false (b / 16 % 2) 0 r) k e
 
 ui_narrow : (b : ℕ) → NarrowKind (K.Ui (b % 8))
 unfolding NarrowKind
@@ -192,32 +194,25 @@ ui_kept network b t hb ui =
     let x : 64 + bit (flag 8 b) * 8 + b % 8 % 8 ≡ b / 32 * 32 + b % 16 = (λ i. 64 + bit_flag 8 b i * 8 + b % 8 % 8) ∙ rw (above 64 b (omega (arith, ui))) (ui_octet (b - 64) (omega (arith, ui))) in
     λ i. x i ∷ t
 
-two_kept : (network : Bool) (b c : ℕ) (r : List ℕ) → ((i : ℕ) → get_or (b ∷ c ∷ r) i 0 < 256) → b < 128 → (b / 32 ≡ 2 → ⊥)
-    → ((ports_after (b ∷ c ∷ r) (kind_of b c network) (flag 8 b) 2).kind ≡ K.Wrong → ⊥) → (kind_of b c network ≡ K.Wrong → ⊥) → HeadKept (b ∷ c ∷ r) network (ports_after (b ∷ c ∷ r) (kind_of b c network) (flag 8 b) 2)
-two_kept network b c r octet hb ui some kind =
-    let k = kind_kept network b c hb (octet 1) ui kind in
-    kept_by (b ∷ c ∷ r) network _ (kind_of b c network) (flag 8 b) 2 (ports_kept (b ∷ c ∷ r) octet (kind_of b c network) 2 (flag 8 b) some) k.narrow k.octets
+two_kept : (network : Bool) (b c : ℕ) (r : List ℕ) → ((i : ℕ) → get_or (b ∷ c ∷ r) i 0 < 256) → b < 128 → (b / 32 ≡ 2 → ⊥) → (h : Head)
+    → headed (b ∷ c ∷ r) (flag 8 b) (kind_of b c network) ≡ Some h → HeadKept (b ∷ c ∷ r) network h
+two_kept network b c r octet hb ui h = go (kind_of b c network) refl where
+  go : (k : Option Kind) → kind_of b c network ≡ k → headed (b ∷ c ∷ r) (flag 8 b) k ≡ Some h → HeadKept (b ∷ c ∷ r) network h
+  go (Some k) q e =
+      let kept = kind_kept network b c hb (octet 1) ui k q in
+      kept_by (b ∷ c ∷ r) network h k (flag 8 b) 2 (ports_kept (b ∷ c ∷ r) octet k 2 (flag 8 b) h e) kept.narrow kept.octets
+  go None q e = absurd (none-some h e)
 
--- the kind of a header with ports is Wrong where it was
-ports_wrong : (s : List ℕ) (ads : Bool) (at : ℕ) (k : Kind) → k ≡ K.Wrong → (ports_after s k ads at).kind ≡ K.Wrong
-unfolding ports_after
-ports_wrong s true at k e = go (leb (length s) at) where
-  go : (b : Bool) → (pick b bad_head (record { kind = k; ads = true; source = get_or s at 0 / 16; destination = get_or s at 0 % 16; end = at + 1 })).kind ≡ K.Wrong
-  go true = refl
-  go false = e
-ports_wrong s false at k e = e
-
-pub head_kept : (s : List ℕ) (network : Bool) → ((i : ℕ) → get_or s i 0 < 256) → ((head_of s network).kind ≡ K.Wrong → ⊥) → HeadKept s network (head_of s network)
+pub head_kept : (s : List ℕ) (network : Bool) → ((i : ℕ) → get_or s i 0 < 256) → (h : Head) → head_of s network ≡ Some h → HeadKept s network h
 unfolding head_of
-head_kept [] network octet some = absurd (some refl)
-head_kept (b ∷ r) network octet some = go (told (leb 128 b)) (told (eqb (b / 32) 2)) r octet some where
-  go : (leb 128 b ≡ true) ⊎ (leb 128 b ≡ false) → (eqb (b / 32) 2 ≡ true) ⊎ (eqb (b / 32) 2 ≡ false) → (r : List ℕ) → ((i : ℕ) → get_or (b ∷ r) i 0 < 256) → ((head_of (b ∷ r) network).kind ≡ K.Wrong → ⊥) → HeadKept (b ∷ r) network (head_of (b ∷ r) network)
-  go (inl p) q r octet some = let n : suc (length r) ≡ 0 → ⊥ = λ h. omega arith in absurd (some (rw (ne_eqb _ _ n, p) refl))
-  go (inr p) (inl q) r octet some =
-      let e = one_octet b r network (leb-false 128 b p) (eqb-true (b / 32) 2 q) in
-      rw e (kept_by (b ∷ r) network _ (K.Ui (b % 8)) (flag 8 b) 1 (ports_kept (b ∷ r) octet (K.Ui (b % 8)) 1 (flag 8 b) (rw e at some)) (ui_narrow b) (λ t. ui_kept network b t (leb-false 128 b p) (eqb-true (b / 32) 2 q)))
-  go (inr p) (inr q) [] octet some = absurd (some (rw (p, q) refl))
-  go (inr p) (inr q) (c ∷ r) octet some =
-      let e = two_octets b c r network (leb-false 128 b p) (eqb-false (b / 32) 2 q) in
-      let known = rw e at some in
-      rw e (two_kept network b c r octet (leb-false 128 b p) (eqb-false (b / 32) 2 q) known (λ k. known (ports_wrong (b ∷ c ∷ r) (flag 8 b) 2 (kind_of b c network) k)))
+head_kept [] network octet h e = absurd (none-some h e)
+head_kept (b ∷ r) network octet h e = go (told (leb 128 b)) (told (eqb (b / 32) 2)) r octet e where
+  go : (leb 128 b ≡ true) ⊎ (leb 128 b ≡ false) → (eqb (b / 32) 2 ≡ true) ⊎ (eqb (b / 32) 2 ≡ false) → (r : List ℕ) → ((i : ℕ) → get_or (b ∷ r) i 0 < 256) → head_of (b ∷ r) network ≡ Some h → HeadKept (b ∷ r) network h
+  go (inl p) q r octet e =
+      let n : suc (length r) ≡ 0 → ⊥ = λ h. omega arith in
+      absurd (none-some h (rw (ne_eqb _ _ n, p) at e))
+  go (inr p) (inl q) r octet e =
+      let one = one_octet b r network (leb-false 128 b p) (eqb-true (b / 32) 2 q) in
+      kept_by (b ∷ r) network h (K.Ui (b % 8)) (flag 8 b) 1 (ports_kept (b ∷ r) octet (K.Ui (b % 8)) 1 (flag 8 b) h (sym one ∙ e)) (ui_narrow b) (λ t. ui_kept network b t (leb-false 128 b p) (eqb-true (b / 32) 2 q))
+  go (inr p) (inr q) [] octet e = absurd (none-some h (rw (p, q) at e))
+  go (inr p) (inr q) (c ∷ r) octet e = two_kept network b c r octet (leb-false 128 b p) (eqb-false (b / 32) 2 q) h (sym (two_octets b c r network (leb-false 128 b p) (eqb-false (b / 32) 2 q)) ∙ e)

@@ -9,4 +9,3 @@ cleared_head (K.I a ns nr r) s = (get_or s 0 0 / 32 * 32 + get_or s 0 0 % 16) �
 cleared_head (K.S a nr r) s = get_or s 0 0 / 4 * 4 ∷ drop 1 s
 cleared_head (K.Ui nu) s = (get_or s 0 0 / 32 * 32 + get_or s 0 0 % 16) ∷ drop 1 s
 cleared_head (K.U m response) s = get_or s 0 0 / 4 * 4 ∷ get_or s 1 0 % 16 ∷ drop 2 s
-cleared_head K.Wrong s = s

@@ -7,54 +7,30 @@ ghost use Rattle.rds_datagram.specs.Put.{fit_of, plan_of, head_octets, done, put
 
 use base_numbers::Refusal;
 
-// The length of the frame that was put; or why none was.
-#[derive(Clone, Copy)]
-pub enum Putting {
-    Length(usize),
-    Refused(Refusal),
-}
-
 // Whether the number and the ports fit their places; without a ports octet both ports are 0.
 #[tactic(auto, unfolding(crate::specs::Put::fit_of))]
 fn fit(ports: bool, source: u64, destination: u64, number: u64) -> bool
     ensures { result ≡ fit_of ports source destination number }
 {
-    if 7 < number {
-        return false;
-    }
-    if ports {
-        if 15 < source {
-            return false;
-        }
-        return destination <= 15;
-    }
-    if source == 0 {
-        return destination == 0;
-    }
-    false
+    let most = if ports { 15 } else { 0 };
+    number <= 7 && source <= most && destination <= most
 }
 
 // The length of the frame of a datagram of len octets, with room for `room`; or why there is none.
 #[tactic(auto, unfolding(crate::specs::Put::plan_of))]
-fn putting_plan(len: usize, room: usize, ports: bool, fits: bool) -> Putting
+fn putting_plan(len: usize, room: usize, ports: bool, fits: bool) -> Result<usize, Refusal>
     ensures { result ≡ plan_of len room ports fits }
 {
     if room < 1523 {
-        return Putting::Refused(Refusal::WrongSize);
+        return Err(Refusal::WrongSize);
     }
-    if fits {
-        if len == 0 {
-            return Putting::Refused(Refusal::WrongLength);
-        }
-        if 1500 < len {
-            return Putting::Refused(Refusal::WrongLength);
-        }
-        if ports {
-            return Putting::Length(2 + len);
-        }
-        return Putting::Length(1 + len);
+    if !fits {
+        return Err(Refusal::WrongSetting);
     }
-    Putting::Refused(Refusal::WrongSetting)
+    if len == 0 || 1500 < len {
+        return Err(Refusal::WrongLength);
+    }
+    Ok(1 + usize::from(ports) + len)
 }
 
 // Stores the header of a UI frame; the place after it.
@@ -67,13 +43,12 @@ fn put_head(out: &mut [u8], ports: bool, source: u64, destination: u64, number: 
     if ports {
         let s = (source % 16) as u8;
         let d = (destination % 16) as u8;
-        let head = [72 + n, s * 16 + d];
-        base_lists::store(out, 0, &head);
-        return 2;
+        base_lists::store(out, 0, &[72 + n, s * 16 + d]);
+        2
+    } else {
+        base_lists::store(out, 0, &[64 + n]);
+        1
     }
-    let head = [64 + n];
-    base_lists::store(out, 0, &head);
-    1
 }
 
 // Puts a datagram into a UI frame at the start of the output.
@@ -85,16 +60,12 @@ pub fn put(
     destination: u64,
     number: u64,
     out: &mut [u8],
-) -> Putting
+) -> Result<usize, Refusal>
     ensures { done result out.new ≡ put_of datagram.now ports source destination number out.old }
 {
     let fits = fit(ports, source, destination, number);
-    match putting_plan(datagram.len(), out.len(), ports, fits) {
-        Putting::Refused(r) => Putting::Refused(r),
-        Putting::Length(n) => {
-            let at = put_head(&mut *out, ports, source, destination, number);
-            base_lists::store(out, at, datagram);
-            Putting::Length(n)
-        }
-    }
+    let n = putting_plan(datagram.len(), out.len(), ports, fits)?;
+    let at = put_head(out, ports, source, destination, number);
+    base_lists::store(out, at, datagram);
+    Ok(n)
 }

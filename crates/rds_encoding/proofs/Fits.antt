@@ -4,6 +4,7 @@ use native.Mathlib.Omega.{arith}
 use mathlib.Core.Path.{◌≡◌, refl}
 use mathlib.Core.List.{List, [], ◌∷◌, ◌++◌}
 use mathlib.Core.Bool.{Bool, true, false}
+use Rattle.std.specs.Prelude.{Option, Some, None, is_some}
 use lib.ListN.{length, take, length-append}
 use lib.Seq.{length-take-le}
 use lib.Dec.{eqb}
@@ -47,18 +48,18 @@ module _ (s : List ℕ) (list : List Entry) where
     go true = fixed_fits _ 3 (omega arith) (omega arith)
     go false = fixed_fits _ 2 (omega arith) (omega arith)
 
-  query_fits : (a : ℕ) (some : Bool) (p : ℕ) → Sized (query_pieces a some p) (pick some 3 1)
+  query_fits : (a : ℕ) (p : Option ℕ) → Sized (query_pieces a p) (pick (is_some p) 3 1)
   unfolding query_pieces
-  query_fits a true p = fixed_fits _ 3 (omega arith) (omega arith)
-  query_fits a false p = fixed_fits _ 1 (omega arith) (omega arith)
+  query_fits a (Some p) = fixed_fits _ 3 (omega arith) (omega arith)
+  query_fits a None = fixed_fits _ 1 (omega arith) (omega arith)
 
-  list_fits : (a : ℕ) (some : Bool) (p n : ℕ) → list_size s list a some n ≤ 1520 → Sized (list_pieces a some p n) (list_size s list a some n)
+  list_fits : (a : ℕ) (p : Option ℕ) (n : ℕ) → list_size s list a (is_some p) n ≤ 1520 → Sized (list_pieces a p n) (list_size s list a (is_some p) n)
   unfolding list_pieces list_size
-  list_fits a true p n h = record {
+  list_fits a (Some p) n h = record {
     fits = record { fronts_fit = omega arith; part_fits = omega arith; count_fits = omega arith; tails_fit = omega arith; size_fits = omega (arith, h) };
     size = omega arith;
   }
-  list_fits a false p n h = record {
+  list_fits a None n h = record {
     fits = record { fronts_fit = omega arith; part_fits = omega arith; count_fits = omega arith; tails_fit = omega arith; size_fits = omega (arith, h) };
     size = omega arith;
   }
@@ -88,9 +89,8 @@ module _ (s : List ℕ) (list : List Entry) where
       }
   body_fits items (B.Asking a p d start len f) h = asking_sized a p d start len f h
   body_fits items (B.Answer a f t) h = answer_fits a f t
-  body_fits items (B.Query a some p) h = query_fits a some p
-  body_fits items (B.List a some p n) h = list_fits a some p n h
-  body_fits items B.Wrong h = absurd (omega (arith, h))
+  body_fits items (B.Query a p) h = query_fits a p
+  body_fits items (B.List a p n) h = list_fits a p n h
 
   -- pieces that fit have as many octets as their sum says
   pub length_pieces : length list ≡ 15 → (p : Pieces) → Fitting s list p → length (pieces_octets s list p) ≡ sum p

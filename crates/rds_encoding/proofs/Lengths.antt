@@ -25,7 +25,6 @@ length_kind (K.I a ns nr r) ads network = refl
 length_kind (K.S a nr r) ads network = refl
 length_kind (K.Ui nu) ads network = refl
 length_kind (K.U m response) ads network = refl
-length_kind K.Wrong ads network = refl
 
 length_flag : (b : Bool) (x : ℕ) → length (take (bit b) (x ∷ [])) ≡ bit b
 length_flag true x = refl

@@ -7,7 +7,6 @@ ghost use Rattle.rds_size.specs.Size.{entries_size};
 ghost use Rattle.rds_pieces.specs.Octets.{pieces_of};
 ghost use Rattle.rds_encoding.specs.Encoding.{head_octets, entry_octets, entries_octets, pieces_octets, Fitting, octets_of};
 
-use base_lists::{bit, size};
 use rds_entries::Entry;
 use rds_frame::Head;
 use rds_pieces::Pieces;
@@ -19,12 +18,11 @@ fn put_head(out: &mut [u8], head: Head, from_network: bool) -> usize
     requires { 3 ≤ length out.old }
     ensures { (result ≡ length (head_octets head from_network)) × (result ≤ 3) × (out.new ≡ put out.old 0 (head_octets head from_network)) }
 {
-    let kind = head.kind;
-    let two = rds_pieces::kind_octets(kind, head.ads, from_network);
-    let n = rds_pieces::kind_length(kind);
-    let m = size(bit(head.ads));
+    let two = rds_pieces::kind_octets(head.kind, head.ads, from_network);
+    let n = rds_pieces::kind_length(head.kind);
+    let m = usize::from(head.ads);
     let ports = [rds_pieces::ports_octet(head.source, head.destination)];
-    base_lists::store(&mut *out, 0, &two[..n]);
+    base_lists::store(out, 0, &two[..n]);
     base_lists::store(out, n, &ports[..m]);
     n + m
 }
@@ -37,12 +35,11 @@ fn put_entry(out: &mut [u8], at: usize, bytes: &[u8], e: Entry, formats: bool) -
 {
     let first = [rds_pieces::ports_octet(e.source, e.destination)];
     let last = [e.format % 8];
-    let m = size(bit(formats));
-    let len = e.len;
-    base_lists::store(&mut *out, at, &first);
-    base_lists::copy(&mut *out, at + 1, bytes, e.start, len);
-    base_lists::store(out, at + 1 + len, &last[..m]);
-    at + 1 + len + m
+    let m = usize::from(formats);
+    base_lists::store(out, at, &first);
+    base_lists::copy(out, at + 1, bytes, e.start, e.len);
+    base_lists::store(out, at + 1 + e.len, &last[..m]);
+    at + 1 + e.len + m
 }
 
 // Stores the first `count` entries from `at` on; the place after them.
@@ -58,11 +55,8 @@ fn put_entries(
     ensures { (result ≡ at + entries_size bytes.now formats list count) × (out.new ≡ put out.old at (entries_octets bytes.now formats (take count list))) }
 {
     let mut next = at;
-    let mut k = 0;
-    while k < count {
-        let e = list[k];
-        next = put_entry(&mut *out, next, bytes, e, formats);
-        k += 1;
+    for k in 0..count {
+        next = put_entry(out, next, bytes, list[k], formats);
     }
     next
 }
@@ -75,9 +69,9 @@ fn put_pieces(out: &mut [u8], at: usize, bytes: &[u8], p: Pieces, list: [Entry; 
     let front = p.front;
     let tail = p.tail;
     let part = at + p.fronts;
-    base_lists::store(&mut *out, at, &front[..p.fronts]);
-    base_lists::copy(&mut *out, part, bytes, p.start, p.len);
-    let last = put_entries(&mut *out, part + p.len, bytes, list, p.formats, p.count);
+    base_lists::store(out, at, &front[..p.fronts]);
+    base_lists::copy(out, part, bytes, p.start, p.len);
+    let last = put_entries(out, part + p.len, bytes, list, p.formats, p.count);
     base_lists::store(out, last, &tail[..p.tails]);
     last + p.tails
 }
@@ -87,9 +81,7 @@ pub fn put_frame(out: &mut [u8], bytes: &[u8], f: Frame, from_network: bool) -> 
     requires { (1523 ≤ length out.old) × Fitting bytes.now f.list (pieces_of f.body) }
     ensures { (result ≡ length (octets_of bytes.now f from_network)) × (out.new ≡ put out.old 0 (octets_of bytes.now f from_network)) }
 {
-    let head = f.head;
-    let body = f.body;
     let list = f.list;
-    let at = put_head(&mut *out, head, from_network);
-    put_pieces(out, at, bytes, rds_pieces::in_pieces(body), list)
+    let at = put_head(out, f.head, from_network);
+    put_pieces(out, at, bytes, rds_pieces::in_pieces(f.body), list)
 }

@@ -2,16 +2,15 @@
 #![tactic(auto)]
 
 ghost use Rattle.std.specs.Prelude.{◌≡◌, ◌≤◌};
-ghost use Rattle.rds_frame.specs.Frame.{commanded, answered, responds, sacked, u_kind, kind_of, bad_head, ports_after, head_of};
+ghost use Rattle.rds_frame.specs.Frame.{commanded, answered, responds, sacked, u_kind, kind_of, ports_after, head_of};
 
-// What a frame is, with the fields that its kind alone has; or malformed.
+// What a frame is, with the fields that its kind alone has.
 #[derive(Clone, Copy)]
 pub enum Kind {
     I { a: bool, ns: u8, nr: u8, r: u8 },
     S { a: bool, nr: u8, r: u8 },
     Ui { nu: u8 },
     U { m: u8, response: bool },
-    Wrong,
 }
 
 // The header: the kind, ADS with the two ports, and the place after it.
@@ -29,14 +28,7 @@ pub struct Head {
 fn is_command(m: u8) -> bool
     ensures { result ≡ commanded m }
 {
-    match m {
-        1 => true,
-        4 => true,
-        7 => true,
-        10 => true,
-        11 => true,
-        _ => false,
-    }
+    matches!(m, 1 | 4 | 7 | 10 | 11)
 }
 
 // Whether a U frame with this M is a response that there is.
@@ -44,13 +36,7 @@ fn is_command(m: u8) -> bool
 fn is_answer(m: u8) -> bool
     ensures { result ≡ answered m }
 {
-    match m {
-        1 => true,
-        6 => true,
-        10 => true,
-        11 => true,
-        _ => false,
-    }
+    matches!(m, 1 | 6 | 10 | 11)
 }
 
 // Whether the bit C/R says response: a command has 0 from the UE and 1 from the network.
@@ -58,29 +44,20 @@ fn is_answer(m: u8) -> bool
 pub fn says_response(cr: bool, from_network: bool) -> bool
     ensures { result ≡ responds cr from_network }
 {
-    if from_network {
-        if cr {
-            return false;
-        }
-        return true;
-    }
-    cr
+    cr != from_network
 }
 
 // The U frame with this M, where the table of M and direction has it.
-pub fn u_kind(m: u8, response: bool) -> Kind
+#[tactic(auto, unfolding(crate::specs::Frame::u_kind))]
+pub fn u_kind(m: u8, response: bool) -> Option<Kind>
     ensures { result ≡ u_kind m response }
 {
-    if response {
-        if is_answer(m) {
-            return Kind::U { m, response: true };
-        }
-        return Kind::Wrong;
-    }
-    if is_command(m) {
-        return Kind::U { m, response: false };
-    }
-    Kind::Wrong
+    let known = if response {
+        is_answer(m)
+    } else {
+        is_command(m)
+    };
+    known.then_some(Kind::U { m, response })
 }
 
 // Whether S1 S2 are 1 1, SACK.
@@ -91,92 +68,72 @@ fn has_sack(c: u8) -> bool
 }
 
 // The I, S or U frame whose first two octets are b and c.
-fn kind_of(b: u8, c: u8, from_network: bool) -> Kind
+#[tactic(auto, unfolding(crate::specs::Frame::kind_of))]
+fn kind_of(b: u8, c: u8, from_network: bool) -> Option<Kind>
     ensures { result ≡ kind_of b c from_network }
 {
     let nr = c / 32;
     let r = c / 4 % 8;
+    if 64 <= b && b / 16 % 2 == 1 {
+        return u_kind(c % 16, says_response(b / 4 % 2 == 1, from_network));
+    }
+    if !has_sack(c) {
+        return None;
+    }
     if b < 64 {
-        if has_sack(c) {
-            return Kind::I {
-                a: b / 32 % 2 == 1,
-                ns: b % 8,
-                nr,
-                r,
-            };
-        }
-        return Kind::Wrong;
-    }
-    if b / 16 % 2 == 0 {
-        if has_sack(c) {
-            return Kind::S {
-                a: b / 4 % 2 == 1,
-                nr,
-                r,
-            };
-        }
-        return Kind::Wrong;
-    }
-    u_kind(c % 16, says_response(b / 4 % 2 == 1, from_network))
-}
-
-fn bad_head() -> Head
-    ensures { result ≡ bad_head }
-{
-    Head {
-        kind: Kind::Wrong,
-        ads: false,
-        source: 0,
-        destination: 0,
-        end: 0,
+        Some(Kind::I {
+            a: b / 32 % 2 == 1,
+            ns: b % 8,
+            nr,
+            r,
+        })
+    } else {
+        Some(Kind::S {
+            a: b / 4 % 2 == 1,
+            nr,
+            r,
+        })
     }
 }
 
-// The header of a kind, with the ports octet at `at` where ADS is 1.
-fn ports_after(s: &[u8], kind: Kind, ads: bool, at: usize) -> Head
+// The header of a kind, with the ports octet at `at` where ADS is 1; none where that octet is cut off.
+#[tactic(auto, unfolding(crate::specs::Frame::ports_after))]
+fn ports_after(s: &[u8], kind: Kind, ads: bool, at: usize) -> Option<Head>
     requires { at ≤ 2 }
     ensures { result ≡ ports_after s.now kind ads at }
 {
-    if ads {
-        if s.len() <= at {
-            return bad_head();
-        }
-        let p = s[at];
-        return Head {
+    if !ads {
+        return Some(Head {
             kind,
-            ads: true,
-            source: p / 16,
-            destination: p % 16,
-            end: at + 1,
-        };
+            ads,
+            source: 0,
+            destination: 0,
+            end: at,
+        });
     }
-    Head {
+    let p = *s.get(at)?;
+    Some(Head {
         kind,
-        ads: false,
-        source: 0,
-        destination: 0,
-        end: at,
-    }
+        ads,
+        source: p / 16,
+        destination: p % 16,
+        end: at + 1,
+    })
 }
 
-// The header of a frame; of the kind Wrong where it is malformed.
-pub fn head_of(s: &[u8], from_network: bool) -> Head
+// The header of a frame; none where it is malformed.
+#[tactic(auto, unfolding(crate::specs::Frame::head_of))]
+pub fn head_of(s: &[u8], from_network: bool) -> Option<Head>
     ensures { result ≡ head_of s.now from_network }
 {
-    if s.len() == 0 {
-        return bad_head();
-    }
-    let b = s[0];
+    let b = *s.first()?;
     if 128 <= b {
-        return bad_head();
+        return None;
     }
     let ads = b / 8 % 2 == 1;
     if b / 32 == 2 {
         return ports_after(s, Kind::Ui { nu: b % 8 }, ads, 1);
     }
-    if s.len() < 2 {
-        return bad_head();
-    }
-    let kind = kind_of(b, s[1], from_network);
+    let kind = kind_of(b, *s.get(1)?, from_network)?;
     ports_after(s, kind, ads, 2)
 }

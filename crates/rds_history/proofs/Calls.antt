@@ -2,6 +2,9 @@
 use mathlib.Core.Path.{◌≡◌, refl, sym, ap, subst, ◌∙◌}
 use mathlib.Core.List.{List, [], ◌∷◌}
 use mathlib.Core.Bool.{Bool, true, false}
+use Rattle.std.specs.Prelude.{Option, Some, None}
+use Rattle.rds_book_laws.proofs.FrameFacts.{Each}
+use Rattle.rds_book_laws.proofs.Deeds.{Deed}
 use Prim.Native.Nat.{ℕ, ◌+◌, ◌≤◌, ◌<◌}
 use native.Mathlib.Omega.{arith}
 use lib.ListN.{length, get_or}
@@ -11,7 +14,7 @@ use Rattle.base_lists.specs.Seq.{pick, put}
 use Rattle.base_lists.proofs.StoresAndParts.{true_false}
 use Rattle.base_octets.proofs.StoredAndRead.{get_same}
 use Rattle.rds_reading.specs.declared.Frame.{Frame}
-use Rattle.rds_reading.specs.Read.{frame_of, sound_body}
+use Rattle.rds_reading.specs.Read.{frame_of}
 use Rattle.rds_book.specs.Book.{book_size, place_of, app_of_is, keep, cleared, well_formed}
 use Rattle.rds_turn.specs.declared.Turn.{Turn}
 use Rattle.rds_turn.specs.Turn.{application_of}
@@ -168,25 +171,12 @@ module _ (b : List ℕ) (h : List Entry) (i : Holds b h) (o a : List ℕ) where
   receive_goes : (s : List ℕ) → Octets s → After (Receive s) (receive_of b o a s)
   unfolding receive_of receive_frame turned
   receive_goes s octet =
-      either c (lent_well b o a) _ _ (λ w. either c (sound_body f.body) _ _ (λ k. took (answer_long b o a w)) (λ k. refusing c 16 refl)) (λ w. refusing c 1 refl) where
-        c : Call
-        c = Receive s
-
-        f : Frame
-        f = frame_of s (from_peer b)
-
-        t : Turn
-        t = turn_in b s f
-
-        app : List ℕ
-        app = application_of s f.body
-
-        reply : List ℕ
-        reply = reply_of b t f.head
-
-        took : 16 ≤ length a → After (Receive s) (left 0 (book_by b app t t.row) (put o 0 reply) (put a 0 (turn_words (length reply) t)))
-        took l =
-            let d = turn_deed b s i.formed octet in
+      either (Receive s) (lent_well b o a) _ _ (λ w. go (answer_long b o a w) (frame_of s (from_peer b)) (turn_deed b s i.formed octet)) (λ w. refusing (Receive s) 1 refl) where
+        took : 16 ≤ length a → (f : Frame) → Deed b (application_of s f.body) s (turn_in b s f) → After (Receive s) (receive_frame b o a s (Some f))
+        took l f d =
+            let t = turn_in b s f in
+            let app = application_of s f.body in
+            let reply = reply_of b t f.head in
             let w = words_of (length reply) t l in
             let x = book_by b app t t.row in
             record {
@@ -194,6 +184,10 @@ module _ (b : List ℕ) (h : List Entry) (i : Holds b h) (o a : List ℕ) where
               once = not_twice b h i s o a (put o 0 reply) (put a 0 (turn_words (length reply) t)) t w x app d;
               zero = record { named = not_zero b h i s o a (put o 0 reply) (put a 0 (turn_words (length reply) t)) t w x app d; listed = zero_listed x };
             }
+
+        go : 16 ≤ length a → (f : Option Frame) → Each (λ (f : Frame). Deed b (application_of s f.body) s (turn_in b s f)) f → After (Receive s) (receive_frame b o a s f)
+        go l (Some f) d = took l f d
+        go l None d = refusing (Receive s) 16 refl
 
   -- ANY CALL
   pub goes : (c : Call) → Lends c → After c (leaves c b o a)

@@ -14,22 +14,24 @@ use Rattle.base_octets.proofs.StoredAndRead.{get_same}
 use Rattle.base_numbers.specs.declared.Refusal.TheVariants.{WrongSize, WrongSetting, WrongLength, WrongFrame}
 use Rattle.rds_malformed.specs.Malformed.{not, or}
 use Rattle.rds_malformed.proofs.RefusedExactly.{refused_exactly}
-use Rattle.rds_datagram.specs.declared.Putting.{Putting}
-use Rattle.rds_datagram.specs.declared.Putting.TheVariants.{Length, Refused}
+use Rattle.std.specs.Prelude.{Option, Some, None, is_some, is_none, Result, Ok, Err}
+use Rattle.rds_reading.specs.declared.Frame.{Frame}
+use Rattle.rds_reading.specs.Read.{frame_of}
+use Rattle.base_numbers.specs.declared.Refusal.{Refusal}
 use Rattle.rds_datagram.specs.Put.{fit_of, plan_of, frame_octets, done, put_by, put_of}
 use Rattle.rds_encoding.specs.Encoding.{octets_of}
 use Rattle.rds_said.specs.Said.{frame_said}
-use Rattle.rds_writing.specs.Write.{accepts, write_of}
-use Rattle.rds.specs.Calls.{is_on, sound_frame, read_number_is, put_words, putting_number, putting_words, put_number, put_answer, write_number}
-use Rattle.rds_laws.specs.FourCalls.{lowest, read_list, ReadNumbers, unfit, put_list, PutNumbers, WriteNumbers}
+use Rattle.rds_writing.specs.Write.{accepts, write_said, write_of}
+use Rattle.rds.specs.Calls.{is_on, read_number_is, put_words, putting_number, putting_words, put_number, put_answer, write_number}
+use Rattle.rds_laws.specs.FourCalls.{lowest, read_list, ReadNumbers, unfit, put_list, PutNumbers, accepted_as, WriteNumbers}
 
 read_number : (least : ℕ) (s : List ℕ) (network : ℕ) (words : List ℕ) → read_number_is least s network words ≡ lowest (read_list least s network words)
 unfolding read_number_is
-read_number least s network words = rw (← (refused_exactly s (is_on network))) (go (ltb (length words) least) (sound_frame s network)) where
-  go : (x y : Bool) → ◌≡◌ {A = ℕ} (pick x 1 (pick y 0 16)) (pick x 1 (pick (not y) 16 0))
-  go true y = refl
-  go false true = refl
-  go false false = refl
+read_number least s network words = rw (← (refused_exactly s (is_on network))) (go (ltb (length words) least) (frame_of s (is_on network))) where
+  go : (x : Bool) (o : Option Frame) → ◌≡◌ {A = ℕ} (pick x 1 (pick (is_some o) 0 16)) (pick x 1 (pick (is_none o) 16 0))
+  go true o = refl
+  go false (Some f) = refl
+  go false None = refl
 
 -- `rds_read`, `rds_take`
 pub read_numbers : (s : List ℕ) (network : ℕ) (words : List ℕ) → ReadNumbers s network words
@@ -54,13 +56,13 @@ fit_said ports s d n = rw (not_over d 15) (go ports (ltb 7 n) (ltb 15 s) (ltb 15
   go false false a b true false = refl
   go false false a b false z = refl
 
-put_by_holds : (frame out : List ℕ) (x : Putting) → (put_by frame out x).answer ≡ x
+put_by_holds : (frame out : List ℕ) (x : Result ℕ Refusal) → (put_by frame out x).answer ≡ x
 unfolding put_by
-put_by_holds frame out (Length n) = refl
-put_by_holds frame out (Refused r) = refl
+put_by_holds frame out (Ok n) = refl
+put_by_holds frame out (Err r) = refl
 
 module _ (t : List ℕ) (ports s d n : ℕ) (out answer : List ℕ) where
-  abbrev plan : Putting
+  abbrev plan : Result ℕ Refusal
   plan = plan_of (length t) (length out) (is_on ports) (fit_of (is_on ports) s d n)
 
   put_plan : (put_of t (is_on ports) s d n out).answer ≡ plan
@@ -71,7 +73,7 @@ module _ (t : List ℕ) (ports s d n : ℕ) (out answer : List ℕ) where
   unfolding put_number plan_of
   put_number_holds = rw (put_plan, ← (fit_said (is_on ports) s d n)) (go (ltb (length answer) 16) (ltb (length out) 1523) (fit_of (is_on ports) s d n) (eqb (length t) 0) (ltb 1500 (length t)) (is_on ports)) where
     go : (x a f z y p : Bool)
-        → ◌≡◌ {A = ℕ} (pick x 1 (putting_number (pick a (Refused WrongSize) (pick f (pick z (Refused WrongLength) (pick y (Refused WrongLength) (pick p (Length (2 + length t)) (Length (1 + length t))))) (Refused WrongSetting)))))
+        → ◌≡◌ {A = ℕ} (pick x 1 (putting_number (pick a (Err WrongSize) (pick f (pick z (Err WrongLength) (pick y (Err WrongLength) (pick p (Ok (2 + length t)) (Ok (1 + length t))))) (Err WrongSetting)))))
         (pick (or x a) 1 (pick (not f) 10 (pick (or z y) 11 0)))
     go true a f z y p = refl
     go false true f z y p = refl
@@ -98,8 +100,8 @@ module _ (t : List ℕ) (ports s d n : ℕ) (out answer : List ℕ) where
   next_number : put_number t ports s d n out answer ≡ 0 → get_or (put_answer t ports s d n out answer) 12 0 ≡ pick (eqb n 7) 0 (n + 1)
   unfolding put_number put_answer plan_of
   next_number q = rw put_plan (go (ltb (length answer) 16) refl (ltb (length out) 1523) (fit_of (is_on ports) s d n) refl (eqb (length t) 0) (ltb 1500 (length t)) (is_on ports) (rw put_plan at q)) where
-    by : Bool → Bool → Bool → Bool → Bool → Putting
-    by a f z y p = pick a (Refused WrongSize) (pick f (pick z (Refused WrongLength) (pick y (Refused WrongLength) (pick p (Length (2 + length t)) (Length (1 + length t))))) (Refused WrongSetting))
+    by : Bool → Bool → Bool → Bool → Bool → Result ℕ Refusal
+    by a f z y p = pick a (Err WrongSize) (pick f (pick z (Err WrongLength) (pick y (Err WrongLength) (pick p (Ok (2 + length t)) (Ok (1 + length t))))) (Err WrongSetting))
 
     go : (x : Bool) → ltb (length answer) 16 ≡ x → (a f : Bool) → fit_of (is_on ports) s d n ≡ f → (z y p : Bool) → ◌≡◌ {A = ℕ} (pick x 1 (putting_number (by a f z y p))) 0
         → get_or (pick x answer (putting_words (by a f z y p) n answer)) 12 0 ≡ pick (eqb n 7) 0 (n + 1)
@@ -118,14 +120,15 @@ put_numbers t ports s d n out answer = record { number = put_number_holds t port
 -- `rds_write`
 pub write_numbers : (w s : List ℕ) (network : ℕ) (out answer : List ℕ) → WriteNumbers w s network out answer
 unfolding write_number write_of
-write_numbers w s network out answer = go (ltb (length answer) 16) (ltb (length w) 100) (ltb (length out) 1523) (accepts w s (frame_said w)) where
-  octets : List ℕ
-  octets = octets_of s (frame_said w) (is_on network)
+write_numbers w s network out answer = go (ltb (length answer) 16) (ltb (length w) 100) (ltb (length out) 1523) (frame_said w) where
+  by : (f : Frame) (c : Bool) → ◌≡◌ {A = ℕ} (putting_number (pick c (done (Ok (length (octets_of s f (is_on network)))) (put out 0 (octets_of s f (is_on network)))) (done (Err WrongFrame) out)).answer) (pick (not c) 16 0)
+  by f true = refl
+  by f false = refl
 
-  go : (x a b c : Bool) → ◌≡◌ {A = ℕ} (pick x 1 (putting_number (pick a (done (Refused WrongSize) out) (pick b (done (Refused WrongSize) out) (pick c (done (Length (length octets)) (put out 0 octets)) (done (Refused WrongFrame) out)))).answer))
-      (pick (or x (or a b)) 1 (pick (not c) 16 0))
-  go true a b c = refl
-  go false true b c = refl
-  go false false true c = refl
-  go false false false true = refl
-  go false false false false = refl
+  go : (x a b : Bool) (o : Option Frame) → ◌≡◌ {A = ℕ} (pick x 1 (putting_number (pick a (done (Err WrongSize) out) (pick b (done (Err WrongSize) out) (write_said w s (is_on network) out o))).answer))
+      (pick (or x (or a b)) 1 (pick (not (accepted_as w s o)) 16 0))
+  go true a b o = refl
+  go false true b o = refl
+  go false false true o = refl
+  go false false false (Some f) = by f (accepts w s f)
+  go false false false None = refl

@@ -1,7 +1,8 @@
 -- Promise 10 (RDS.md, section 9), of `rds_read`, `rds_take`, `rds_put` and `rds_write`: the numbers of section 6 with what they are given for, and "the lowest that applies".
-use Rattle.std.specs.Prelude.{ℕ, ◌+◌, ◌≡◌, Bool, List, [], ◌∷◌, length, get_or, ltb, eqb}
+use Rattle.std.specs.Prelude.{ℕ, ◌+◌, ◌≡◌, Bool, List, [], ◌∷◌, false, length, get_or, ltb, eqb, Option, Some, None}
 use Rattle.base_lists.specs.Seq.{pick}
 use Rattle.rds_malformed.specs.Malformed.{not, or, malformed}
+use Rattle.rds_reading.specs.declared.Frame.{Frame}
 use Rattle.rds_said.specs.Said.{frame_said}
 use Rattle.rds_writing.specs.Write.{accepts}
 use Rattle.rds.specs.Calls.{is_on, read_number_is, put_number, put_answer, write_number}
@@ -41,10 +42,15 @@ pub record PutNumbers (t : List ℕ) (ports s d n : ℕ) (out answer : List ℕ)
   pub number : put_number t ports s d n out answer ≡ lowest (put_list t ports s d n out answer)
   pub next : put_number t ports s d n out answer ≡ 0 → get_or (put_answer t ports s d n out answer) 12 0 ≡ pick (eqb n 7) 0 (n + 1)
 
+-- some frame reads as the words: they say one, and it is accepted
+abbrev pub accepted_as : List ℕ → List ℕ → Option Frame → Bool
+accepted_as w s (Some f) = accepts w s f
+accepted_as w s None = false
+
 -- `rds_write`: 1 "FIELDS .. ANSWER or OUT too small", 16 "no frame reads as these words"
 abbrev pub write_list : List ℕ → List ℕ → List ℕ → List ℕ → List Given
 write_list w s out answer =
-    given 1 (or (ltb (length answer) 16) (or (ltb (length w) 100) (ltb (length out) 1523))) ∷ given 16 (not (accepts w s (frame_said w))) ∷ []
+    given 1 (or (ltb (length answer) 16) (or (ltb (length w) 100) (ltb (length out) 1523))) ∷ given 16 (not (accepted_as w s (frame_said w))) ∷ []
 
 abbrev pub WriteNumbers : List ℕ → List ℕ → ℕ → List ℕ → List ℕ → Type 0
 WriteNumbers w s network out answer = write_number w s network out answer ≡ lowest (write_list w s out answer)

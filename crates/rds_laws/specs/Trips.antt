@@ -1,17 +1,19 @@
 -- What is taken of a frame, beside what is read of it and what was put into it (RDS.md, section 9, promises 1 and 5).
-use Rattle.std.specs.Prelude.{ℕ, ◌+◌, ◌-◌, ◌≡◌, List, [], ◌∷◌, Bool, true, false, length, get_or, eqb}
+use Rattle.std.specs.Prelude.{ℕ, ◌+◌, ◌-◌, ◌≡◌, List, [], ◌∷◌, Bool, true, false, length, get_or, eqb, Some}
 use Rattle.base_lists.specs.Seq.{pick, bit, part}
-use Rattle.rds_reading.specs.Read.{frame_of, sound_body}
-use Rattle.rds_words.specs.Words.{part_words, words_of}
+use Rattle.rds_reading.specs.Read.{frame_of}
+use Rattle.rds_reading.specs.declared.Frame.{Frame}
+use Rattle.rds_words.specs.Words.{part_words}
 
--- the words that are taken of a frame f (section 6, PART)
-abbrev pub taken_words : List ℕ → Bool → List ℕ
-taken_words f network = part_words (frame_of f network).head (length f - (frame_of f network).head.end)
+-- the words that are taken of the frame g, read in f (section 6, PART)
+abbrev pub taken_words : List ℕ → Frame → List ℕ
+taken_words f g = part_words g.head (length f - g.head.end)
 
 -- a UI frame f, sound whoever sent it, with the number n and these ports, in which the datagram t lies from `start` on
 pub record Taken (f t : List ℕ) (network ports : Bool) (s d n start : ℕ) : Type 0 where
-  pub sound : sound_body (frame_of f network).body ≡ true
-  pub words : taken_words f network ≡ 3 ∷ start ∷ length t ∷ bit ports ∷ s ∷ d ∷ n ∷ 0 ∷ []
+  pub frame : Frame
+  pub sound : frame_of f network ≡ Some frame
+  pub words : taken_words f frame ≡ 3 ∷ start ∷ length t ∷ bit ports ∷ s ∷ d ∷ n ∷ 0 ∷ []
   pub same : part f start (length t) ≡ t
 
 -- section 6: the word k of a frame, and of what is taken of it
@@ -32,7 +34,3 @@ pub record AsRead (part fields : List ℕ) : Type 0 where
   pub destination : word part 5 ≡ word fields 3
   pub number : word part 6 ≡ word fields 5 + word fields 8
   pub last : word part 7 ≡ 0
-
--- the words that are read of a frame
-abbrev pub read_words : List ℕ → Bool → List ℕ
-read_words f network = words_of (frame_of f network)

@@ -1,5 +1,5 @@
 -- What a call of the book leaves, and when it is refused with 1 (RDS.md, section 6).
-use Rattle.std.specs.Prelude.{ℕ, List, Bool, false, length, ltb}
+use Rattle.std.specs.Prelude.{ℕ, List, Bool, false, length, ltb, Result, Ok, Err}
 use Rattle.base_lists.specs.Seq.{pick}
 use Rattle.base_numbers.specs.declared.Refusal.{Refusal}
 use Rattle.base_numbers.specs.Numbers.{number_of}
@@ -15,6 +15,11 @@ pub record Left : Type 0 where
 
 abbrev pub left : ℕ → List ℕ → List ℕ → List ℕ → Left
 left n b o a = record { number = n; book = b; output = o; answer = a }
+
+-- the number given back: 0, or that of the refusal
+abbrev pub number_given : Result Unit Refusal → ℕ
+number_given (Ok done) = 0
+number_given (Err r) = number_of r
 
 -- "a refused call changes no lent byte and no lent word"
 abbrev pub refused : Refusal → List ℕ → List ℕ → List ℕ → Left

@@ -1,5 +1,5 @@
 -- Section 3 of RDS.md: the fourteen ways in which a frame is malformed, each on its own. `network`: the network sent the frame.
-use Rattle.std.specs.Prelude.{ℕ, ◌+◌, ◌-◌, ◌/◌, ◌%◌, List, [], ◌∷◌, Bool, true, false, length, get_or, drop, replicate, ltb, leb, eqb}
+use Rattle.std.specs.Prelude.{ℕ, ◌+◌, ◌-◌, ◌/◌, ◌%◌, List, [], ◌∷◌, Bool, true, false, length, get_or, drop, replicate, ltb, leb, eqb, Option, Some, None, is_none}
 use Rattle.rds_lists.specs.Sizes.{information_most}
 use Rattle.base_lists.specs.Seq.{pick}
 use Rattle.rds_frame.specs.Frame.{flag, sacked, responds, answered, commanded}
@@ -114,15 +114,15 @@ module _ (t : List ℕ) (at : ℕ) where
   action = get_or t 0 0 % 16
 
   -- section 2: how the Action's body is laid out
-  abbrev pub form : Bool → Form
+  abbrev pub form : Bool → Option Form
   form response = form_of action response
 
-  abbrev pub isWrong : Form → Bool
-  isWrong F.Asking = false
-  isWrong F.Answer = false
-  isWrong F.Query = false
-  isWrong F.List = false
-  isWrong F.Wrong = true
+  abbrev pub isWrong : Option Form → Bool
+  isWrong (Some F.Asking) = false
+  isWrong (Some F.Answer) = false
+  isWrong (Some F.Query) = false
+  isWrong (Some F.List) = false
+  isWrong None = true
 
   -- the octets of a Reserve or Release command, with its Application ID and with Action 5 a format
   abbrev pub askingLength : ℕ
@@ -135,7 +135,7 @@ module _ (t : List ℕ) (at : ℕ) where
   abbrev pub status : ℕ
   status = pick (eqb action 5) (get_or t 2 0) (get_or t 1 0)
 
-  abbrev pub entries : Entries
+  abbrev pub entries : Option Entries
   entries = walk_from (get_or t 0 0 / 16) 0 (ltb 5 action) (at + 1) (drop 1 t) (replicate 15 no_entry)
 
   -- neither nothing nor a bitmap of two octets
@@ -147,28 +147,33 @@ module _ (t : List ℕ) (at : ℕ) where
   malformed11 response = or (eqb (length t) 0) (isWrong (form response))
 
   -- 12. a reserved Status
-  abbrev pub reservedStatus : Form → Bool
-  reservedStatus F.Asking = false
-  reservedStatus F.Answer = and (eqb (length t) answerLength) (not (ltb status 4))
-  reservedStatus F.Query = false
-  reservedStatus F.List = false
-  reservedStatus F.Wrong = false
+  abbrev pub reservedStatus : Option Form → Bool
+  reservedStatus (Some F.Asking) = false
+  reservedStatus (Some F.Answer) = and (eqb (length t) answerLength) (not (ltb status 4))
+  reservedStatus (Some F.Query) = false
+  reservedStatus (Some F.List) = false
+  reservedStatus None = false
 
   -- 13. a MANAGE_PORT body cut short, within an Application ID too
-  abbrev pub cutShort : Form → Bool
-  cutShort F.Asking = or (ltb (length t) 2) (or (eqb (application_length (drop 2 t)) 0) (ltb (length t) askingLength))
-  cutShort F.Answer = ltb (length t) answerLength
-  cutShort F.Query = false
-  cutShort F.List = not entries.whole
-  cutShort F.Wrong = false
+  abbrev pub cutShort : Option Form → Bool
+  cutShort (Some F.Asking) = or (ltb (length t) 2) (or (eqb (application_length (drop 2 t)) 0) (ltb (length t) askingLength))
+  cutShort (Some F.Answer) = ltb (length t) answerLength
+  cutShort (Some F.Query) = false
+  cutShort (Some F.List) = is_none entries
+  cutShort None = false
+
+  -- after the entries of a list, where all are there, neither nothing nor a bitmap
+  abbrev pub pastEntries : Option Entries → Bool
+  pastEntries (Some e) = noBitmap (drop (e.end - at) t)
+  pastEntries None = false
 
   -- 14. octets left after the body: "a Query command's body has 1 or 3 octets, and after a list's entries come 0 or 2"
-  abbrev pub octetsLeft : Form → Bool
-  octetsLeft F.Asking = ltb askingLength (length t)
-  octetsLeft F.Answer = ltb answerLength (length t)
-  octetsLeft F.Query = noBitmap (drop 1 t)
-  octetsLeft F.List = noBitmap (drop (entries.end - at) t)
-  octetsLeft F.Wrong = false
+  abbrev pub octetsLeft : Option Form → Bool
+  octetsLeft (Some F.Asking) = ltb askingLength (length t)
+  octetsLeft (Some F.Answer) = ltb answerLength (length t)
+  octetsLeft (Some F.Query) = noBitmap (drop 1 t)
+  octetsLeft (Some F.List) = pastEntries entries
+  octetsLeft None = false
 
   -- 11 to 14 of an information field
   abbrev pub badInformation : Bool → Bool

@@ -2,26 +2,18 @@
 #![tactic(auto)]
 
 ghost use Rattle.std.specs.Prelude.{◌≡◌, ◌≤◌, length};
+ghost use Rattle.rds_lists.specs.Sizes.{nonzero};
 ghost use Rattle.rds_parameters.specs.Parameters.{item_length, items_from};
 
-// The octets of the item that s begins with; 0 where it is cut short, or is an RDS_Version of another length.
-fn item_length(s: &[u8]) -> usize
-    ensures { (result ≡ item_length s.now) × (result ≤ length s.now) }
+// The octets of the item that s begins with; none where it is cut short, or is an RDS_Version of another length.
+#[tactic(auto, unfolding(crate::specs::Parameters::item_length))]
+fn item_length(s: &[u8]) -> Option<usize>
+    ensures found { result ≡ nonzero (item_length s.now) }
+    ensures inside { item_length s.now ≤ length s.now }
 {
-    if s.len() < 2 {
-        return 0;
-    }
-    let n = 2 + base_lists::size(s[1]);
-    if s.len() < n {
-        return 0;
-    }
-    if s[0] == 0 {
-        if n == 3 {
-            return 3;
-        }
-        return 0;
-    }
-    n
+    let n = 2 + usize::from(*s.get(1)?);
+    let whole = n <= s.len() && (s[0] != 0 || n == 3);
+    if whole { Some(n) } else { None }
 }
 
 // Whether s is items to its end, of which at most `left` are still to come.
@@ -29,15 +21,11 @@ fn item_length(s: &[u8]) -> usize
 pub fn all_items(s: &[u8], left: usize) -> bool
     ensures { result ≡ items_from left s.now }
 {
-    if s.len() == 0 {
+    if s.is_empty() {
         return true;
     }
-    if left == 0 {
-        return false;
+    match item_length(s) {
+        Some(n) if 0 < left => all_items(&s[n..], left - 1),
+        _ => false,
     }
-    let n = item_length(s);
-    if n == 0 {
-        return false;
-    }
-    all_items(&s[n..], left - 1)
 }

@@ -1,5 +1,6 @@
 -- The octets of a frame to be written (RDS.md, sections 1 and 2; TS 24.250, clause 5). Spare bits are 0; a value that fits is not changed by the remainder.
-use Rattle.std.specs.Prelude.{ℕ, ◌+◌, ◌*◌, ◌/◌, ◌%◌, List, [], ◌∷◌, Bool, false, ltb, eqb}
+use Rattle.std.specs.Prelude.{ℕ, ◌+◌, ◌*◌, ◌/◌, ◌%◌, List, [], ◌∷◌, Bool, false, ltb, eqb, Option, is_some}
+use Rattle.std.specs.Option.{unwrap_or}
 use Rattle.base_lists.specs.Seq.{pick, bit}
 use Rattle.rds_frame.specs.declared.Kind.{Kind}
 use Rattle.rds_frame.specs.declared.Kind.TheVariants as K
@@ -18,7 +19,6 @@ kind_octets (K.I a ns nr r) ads network = (bit a * 32 + bit ads * 8 + ns % 8) �
 kind_octets (K.S a nr r) ads network = (96 + bit ads * 8 + bit a * 4) ∷ (nr % 8 * 32 + r % 8 * 4 + 3) ∷ []
 kind_octets (K.Ui nu) ads network = (64 + bit ads * 8 + nu % 8) ∷ 0 ∷ []
 kind_octets (K.U m response) ads network = (112 + bit ads * 8 + bit (responds response network) * 4) ∷ m % 16 ∷ []
-kind_octets K.Wrong ads network = 0 ∷ 0 ∷ []
 
 -- a UI frame has no second octet
 unfoldable pub kind_length : Kind → ℕ
@@ -26,7 +26,6 @@ kind_length (K.I a ns nr r) = 2
 kind_length (K.S a nr r) = 2
 kind_length (K.Ui nu) = 1
 kind_length (K.U m response) = 2
-kind_length K.Wrong = 0
 
 -- octets of its own, and nothing else
 unfoldable pub fixed_of : List ℕ → ℕ → Pieces
@@ -45,12 +44,12 @@ unfoldable pub answer_pieces : ℕ → ℕ → ℕ → Pieces
 answer_pieces a f t = pick (eqb a 5) (fixed_of (a % 16 ∷ f % 8 ∷ t % 4 ∷ []) 3) (fixed_of (a % 16 ∷ t % 4 ∷ 0 ∷ []) 2)
 
 -- section 2, the command Query: "1; optionally 2, 3 Requested port numbers"
-unfoldable pub query_pieces : ℕ → Bool → ℕ → Pieces
-query_pieces a some p = fixed_of (a % 16 ∷ bitmap_octets p) (1 + 2 * bit some)
+unfoldable pub query_pieces : ℕ → Option ℕ → Pieces
+query_pieces a p = fixed_of (a % 16 ∷ bitmap_octets (unwrap_or p 0)) (1 + 2 * bit (is_some p))
 
 -- section 2, "List": octet 1 with Num Entries n; n entries; "then nothing, or two octets"; with Actions 6 and 7 each entry has a format
-unfoldable pub list_pieces : ℕ → Bool → ℕ → ℕ → Pieces
-list_pieces a some p n = record { front = (n % 16 * 16 + a % 16) ∷ 0 ∷ 0 ∷ []; fronts = 1; start = 0; len = 0; count = n % 16; formats = ltb 5 a; tail = bitmap_octets p; tails = 2 * bit some }
+unfoldable pub list_pieces : ℕ → Option ℕ → ℕ → Pieces
+list_pieces a p n = record { front = (n % 16 * 16 + a % 16) ∷ 0 ∷ 0 ∷ []; fronts = 1; start = 0; len = 0; count = n % 16; formats = ltb 5 a; tail = bitmap_octets (unwrap_or p 0); tails = 2 * bit (is_some p) }
 
 -- the pieces of a body
 unfoldable pub pieces_of : Body → Pieces
@@ -58,6 +57,5 @@ pieces_of B.Empty = fixed_of (0 ∷ 0 ∷ 0 ∷ []) 0
 pieces_of (B.Information start len) = record { front = 0 ∷ 0 ∷ 0 ∷ []; fronts = 0; start = start; len = len; count = 0; formats = false; tail = 0 ∷ 0 ∷ []; tails = 0 }
 pieces_of (B.Asking a s d start len f) = asking_pieces a s d start len f
 pieces_of (B.Answer a f t) = answer_pieces a f t
-pieces_of (B.Query a some p) = query_pieces a some p
-pieces_of (B.List a some p n) = list_pieces a some p n
-pieces_of B.Wrong = fixed_of (0 ∷ 0 ∷ 0 ∷ []) 0
+pieces_of (B.Query a p) = query_pieces a p
+pieces_of (B.List a p n) = list_pieces a p n

@@ -4,7 +4,6 @@
 ghost use Rattle.std.specs.Prelude.{◌≡◌, ◌≤◌};
 ghost use Rattle.rds_pieces.specs.Octets.{ports_octet, kind_octets, kind_length, fixed_of, bitmap_octets, asking_pieces, answer_pieces, query_pieces, list_pieces, pieces_of};
 
-use base_lists::{bit, size};
 use rds_body::Body;
 use rds_frame::Kind;
 
@@ -32,16 +31,15 @@ pub fn ports_octet(source: u8, destination: u8) -> u8
 pub fn kind_octets(kind: Kind, ads: bool, from_network: bool) -> [u8; 2]
     ensures { result ≡ kind_octets kind ads from_network }
 {
-    let e = bit(ads) * 8;
+    let e = u8::from(ads) * 8;
     match kind {
-        Kind::I { a, ns, nr, r } => { [bit(a) * 32 + e + ns % 8, nr % 8 * 32 + r % 8 * 4 + 3] }
-        Kind::S { a, nr, r } => [96 + e + bit(a) * 4, nr % 8 * 32 + r % 8 * 4 + 3],
+        Kind::I { a, ns, nr, r } => [u8::from(a) * 32 + e + ns % 8, nr % 8 * 32 + r % 8 * 4 + 3],
+        Kind::S { a, nr, r } => [96 + e + u8::from(a) * 4, nr % 8 * 32 + r % 8 * 4 + 3],
         Kind::Ui { nu } => [64 + e + nu % 8, 0],
         Kind::U { m, response } => {
             let cr = rds_frame::says_response(response, from_network);
-            [112 + e + bit(cr) * 4, m % 16]
+            [112 + e + u8::from(cr) * 4, m % 16]
         }
-        Kind::Wrong => [0, 0],
     }
 }
 
@@ -51,15 +49,13 @@ pub fn kind_length(kind: Kind) -> usize
     ensures { (result ≡ kind_length kind) × (result ≤ 2) }
 {
     match kind {
-        Kind::I { .. } => 2,
-        Kind::S { .. } => 2,
+        Kind::I { .. } | Kind::S { .. } | Kind::U { .. } => 2,
         Kind::Ui { .. } => 1,
-        Kind::U { .. } => 2,
-        Kind::Wrong => 0,
     }
 }
 
 // Octets of its own, and nothing else.
+#[tactic(auto, unfolding(crate::specs::Octets::fixed_of))]
 fn fixed(front: [u8; 3], fronts: usize) -> Pieces
     ensures { result ≡ fixed_of front fronts }
 {
@@ -83,6 +79,7 @@ fn bitmap_octets(ports: u16) -> [u8; 2]
 }
 
 // The command Reserve or Release.
+#[tactic(auto, unfolding(crate::specs::Octets::asking_pieces))]
 fn asking(action: u8, source: u8, destination: u8, start: usize, len: usize, format: u8) -> Pieces
     ensures { result ≡ asking_pieces action source destination start len format }
 {
@@ -95,42 +92,49 @@ fn asking(action: u8, source: u8, destination: u8, start: usize, len: usize, for
         count: 0,
         formats: false,
         tail: [format % 8, 0],
-        tails: size(bit(action == 5)),
+        tails: usize::from(u8::from(action == 5)),
     }
 }
 
 // The response Reserve or Release.
+#[tactic(auto, unfolding(crate::specs::Octets::answer_pieces))]
 fn answer(action: u8, format: u8, status: u8) -> Pieces
     ensures { result ≡ answer_pieces action format status }
 {
     if action == 5 {
-        return fixed([action % 16, format % 8, status % 4], 3);
+        fixed([action % 16, format % 8, status % 4], 3)
+    } else {
+        fixed([action % 16, status % 4, 0], 2)
     }
-    fixed([action % 16, status % 4, 0], 2)
 }
 
 // The command Query.
-fn query(action: u8, some: bool, ports: u16) -> Pieces
-    ensures { result ≡ query_pieces action some ports }
+#[tactic(auto, unfolding(crate::specs::Octets::query_pieces))]
+fn query(action: u8, ports: Option<u16>) -> Pieces
+    ensures { result ≡ query_pieces action ports }
 {
-    let map = bitmap_octets(ports);
-    fixed([action % 16, map[0], map[1]], 1 + 2 * size(bit(some)))
+    let [low, high] = bitmap_octets(ports.unwrap_or(0));
+    fixed(
+        [action % 16, low, high],
+        1 + 2 * usize::from(ports.is_some()),
+    )
 }
 
 // A list: its octet 1, its entries, perhaps a bitmap of ports.
-fn listed(action: u8, some: bool, ports: u16, count: u8) -> Pieces
-    ensures { result ≡ list_pieces action some ports count }
+#[tactic(auto, unfolding(crate::specs::Octets::list_pieces))]
+fn listed(action: u8, ports: Option<u16>, count: u8) -> Pieces
+    ensures { result ≡ list_pieces action ports count }
 {
-    let tail = bitmap_octets(ports);
+    let tail = bitmap_octets(ports.unwrap_or(0));
     Pieces {
         front: [count % 16 * 16 + action % 16, 0, 0],
         fronts: 1,
         start: 0,
         len: 0,
-        count: size(count % 16),
+        count: usize::from(count % 16),
         formats: 5 < action,
         tail,
-        tails: 2 * size(bit(some)),
+        tails: 2 * usize::from(ports.is_some()),
     }
 }
 
@@ -164,17 +168,11 @@ pub fn in_pieces(body: Body) -> Pieces
             format,
             status,
         } => answer(action, format, status),
-        Body::Query {
-            action,
-            some,
-            ports,
-        } => query(action, some, ports),
+        Body::Query { action, ports } => query(action, ports),
         Body::List {
             action,
-            some,
             ports,
             count,
-        } => listed(action, some, ports, count),
-        Body::Wrong => fixed([0; 3], 0),
+        } => listed(action, ports, count),
     }
 }

@@ -1,10 +1,10 @@
 -- What `rds_receive` leaves (RDS.md, sections 5 and 6).
-use Rattle.std.specs.Prelude.{ℕ, ◌%◌, List, [], ◌∷◌, Bool, true, false, length, eqb}
+use Rattle.std.specs.Prelude.{ℕ, ◌%◌, List, [], ◌∷◌, Bool, true, false, length, eqb, Option, Some, None}
 use Rattle.base_lists.specs.Seq.{pick, bit, put}
 use Rattle.base_numbers.specs.declared.Refusal.TheVariants.{WrongSize, WrongFrame}
 use Rattle.rds_frame.specs.declared.Head.{Head}
 use Rattle.rds_reading.specs.declared.Frame.{Frame}
-use Rattle.rds_reading.specs.Read.{frame_of, sound_body}
+use Rattle.rds_reading.specs.Read.{frame_of}
 use Rattle.rds_book.specs.declared.Place.{Place}
 use Rattle.rds_book.specs.Book.{app_of_is, keep, cleared}
 use Rattle.rds_rows.specs.declared.Row.{Row}
@@ -58,9 +58,9 @@ abbrev pub turn_in : List ℕ → List ℕ → Frame → Turn
 turn_in b s f = turn_by b (application_of s f.body) f.head.ads f.body f.head.kind
 
 -- 16 for a malformed frame
-unfoldable pub receive_frame : List ℕ → List ℕ → List ℕ → List ℕ → Frame → Left
-receive_frame b o a s f =
-    pick (sound_body f.body) (turned b o a (application_of s f.body) f.head (turn_in b s f)) (refused WrongFrame b o a)
+unfoldable pub receive_frame : List ℕ → List ℕ → List ℕ → List ℕ → Option Frame → Left
+receive_frame b o a s (Some f) = turned b o a (application_of s f.body) f.head (turn_in b s f)
+receive_frame b o a s None = refused WrongFrame b o a
 
 -- "`rds_receive` reads its frame as one of the other side"
 unfoldable pub from_peer : List ℕ → Bool

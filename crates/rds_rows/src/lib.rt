@@ -25,13 +25,11 @@ pub enum Row {
 }
 
 // Whether two formats have bit 1 in common.
+#[tactic(auto, unfolding(crate::specs::Rows::common))]
 fn shared(o: u8, s: u8) -> bool
     ensures { result ≡ common o s }
 {
-    if o % 2 == 1 {
-        return s % 2 == 1;
-    }
-    false
+    o % 2 == 1 && s % 2 == 1
 }
 
 // The lowest format that is both offered and supported, 0 where there is none.
@@ -40,15 +38,14 @@ pub fn best(o: u8, s: u8) -> u8
     ensures { result ≡ best o s }
 {
     if shared(o, s) {
-        return 1;
+        1
+    } else if shared(o / 2, s / 2) {
+        2
+    } else if shared(o / 4, s / 4) {
+        4
+    } else {
+        0
     }
-    if shared(o / 2, s / 2) {
-        return 2;
-    }
-    if shared(o / 4, s / 4) {
-        return 4;
-    }
-    0
 }
 
 // The row of a Reserve command.
@@ -57,34 +54,28 @@ pub fn reserve_row(again: bool, mine: bool, taken: bool, none: bool) -> Row
     ensures { result ≡ reserve_row again mine taken none }
 {
     if again {
-        return Row::R1;
+        Row::R1
+    } else if mine && taken {
+        Row::R2
+    } else if none {
+        Row::R3
+    } else if mine {
+        Row::R5
+    } else {
+        Row::R4
     }
-    if mine {
-        if taken {
-            return Row::R2;
-        }
-        if none {
-            return Row::R3;
-        }
-        return Row::R5;
-    }
-    if none {
-        return Row::R3;
-    }
-    Row::R4
 }
 
 // The row of a Release command.
+#[tactic(auto, unfolding(crate::specs::Rows::release_row))]
 pub fn release_row(mine: bool, held: bool) -> Row
     ensures { result ≡ release_row mine held }
 {
-    if mine {
-        if held {
-            return Row::R7;
-        }
-        return Row::R8;
+    match (mine, held) {
+        (false, _) => Row::R6,
+        (true, true) => Row::R7,
+        (true, false) => Row::R8,
     }
-    Row::R6
 }
 
 // The row of a response to our outstanding command.
@@ -92,39 +83,21 @@ pub fn release_row(mine: bool, held: bool) -> Row
 pub fn answer_row(release: bool, status: u8) -> Row
     ensures { result ≡ answer_row release status }
 {
-    if release {
-        if status == 0 {
-            return Row::R12;
-        }
-        if status == 2 {
-            return Row::R12;
-        }
-        return Row::R13;
+    match (release, status) {
+        (true, 0 | 2) => Row::R12,
+        (true, _) => Row::R13,
+        (false, 0) => Row::R10,
+        (false, _) => Row::R11,
     }
-    if status == 0 {
-        return Row::R10;
-    }
-    Row::R11
 }
 
 pub fn event(row: Row) -> u64
     ensures { result ≡ event_of row }
 {
     match row {
-        Row::R1 => 1,
-        Row::R2 => 1,
-        Row::R3 => 1,
-        Row::R4 => 1,
-        Row::R5 => 1,
-        Row::R6 => 1,
-        Row::R7 => 1,
-        Row::R8 => 1,
+        Row::R1 | Row::R2 | Row::R3 | Row::R4 | Row::R5 | Row::R6 | Row::R7 | Row::R8 => 1,
+        Row::R10 | Row::R11 | Row::R12 | Row::R13 | Row::R14 => 2,
         Row::R9 => 3,
-        Row::R10 => 2,
-        Row::R11 => 2,
-        Row::R12 => 2,
-        Row::R13 => 2,
-        Row::R14 => 2,
         Row::R15 => 0,
     }
 }
@@ -134,21 +107,10 @@ pub fn status(row: Row) -> u8
     ensures { result ≡ status_of row }
 {
     match row {
-        Row::R1 => 0,
         Row::R2 => 1,
-        Row::R3 => 3,
-        Row::R4 => 0,
-        Row::R5 => 0,
-        Row::R6 => 0,
-        Row::R7 => 0,
         Row::R8 => 2,
-        Row::R9 => 0,
-        Row::R10 => 0,
-        Row::R11 => 0,
-        Row::R12 => 0,
-        Row::R13 => 0,
-        Row::R14 => 0,
-        Row::R15 => 0,
+        Row::R3 => 3,
+        _ => 0,
     }
 }
 
@@ -157,20 +119,8 @@ pub fn format(row: Row, given: u8, ours: u8) -> u8
     ensures { result ≡ format_of row given ours }
 {
     match row {
-        Row::R1 => given,
-        Row::R2 => 0,
+        Row::R1 | Row::R4 | Row::R5 => given,
         Row::R3 => ours,
-        Row::R4 => given,
-        Row::R5 => given,
-        Row::R6 => 0,
-        Row::R7 => 0,
-        Row::R8 => 0,
-        Row::R9 => 0,
-        Row::R10 => 0,
-        Row::R11 => 0,
-        Row::R12 => 0,
-        Row::R13 => 0,
-        Row::R14 => 0,
-        Row::R15 => 0,
+        _ => 0,
     }
 }

@@ -9,25 +9,21 @@ ghost use Rattle.rds_sending.specs.Sent.{command_octet, response_octet, ports_oc
 use rds_book::Place;
 
 // Octet 1 of a command of ours.
+#[tactic(auto, unfolding(crate::specs::Sent::command_octet))]
 fn command_octet(book: &[u8]) -> u8
     requires { length book.now ≡ book_size }
     ensures { result ≡ command_octet book.now }
 {
-    if book[0] == 1 {
-        return 116;
-    }
-    112
+    if book[0] == 1 { 116 } else { 112 }
 }
 
 // Octet 1 of a response of ours.
+#[tactic(auto, unfolding(crate::specs::Sent::response_octet))]
 fn response_octet(book: &[u8]) -> u8
     requires { length book.now ≡ book_size }
     ensures { (result ≡ response_octet book.now) × (result ≤ 116) }
 {
-    if book[0] == 1 {
-        return 112;
-    }
-    116
+    if book[0] == 1 { 112 } else { 116 }
 }
 
 fn ports_octet(source: u8, destination: u8) -> u8
@@ -37,6 +33,7 @@ fn ports_octet(source: u8, destination: u8) -> u8
 }
 
 // The octets before the Application ID of a command.
+#[tactic(auto, unfolding(crate::specs::Sent::asking_head))]
 fn asking_head(book: &[u8], c: Place) -> [u8; 4]
     requires { length book.now ≡ book_size }
     ensures { result ≡ asking_head book.now c }
@@ -53,11 +50,11 @@ fn put_offered(book: &[u8], out: &mut [u8], at: usize, action: u8) -> usize
     ensures { (result ≡ length (offered book.now)) × (out.new ≡ put out.old at (offered book.now)) × (result ≤ 1) }
 {
     if action == 5 {
-        let one = [book[1]];
-        base_lists::store(out, at, &one);
-        return 1;
+        base_lists::store(out, at, &[book[1]]);
+        1
+    } else {
+        0
     }
-    0
 }
 
 // Writes our outstanding command at the start of the output; its length.
@@ -68,8 +65,8 @@ pub fn send_command(book: &[u8], out: &mut [u8]) -> usize
     let c = rds_book::place_at(book, 0);
     let head = asking_head(book, c);
     let n = rds_book::app_length(book, 0);
-    base_lists::store(&mut *out, 0, &head);
-    base_lists::copy(&mut *out, 4, book, 6, n);
+    base_lists::store(out, 0, &head);
+    base_lists::copy(out, 4, book, 6, n);
     let more = put_offered(book, out, 4 + n, c.tag);
     4 + n + more
 }
@@ -83,13 +80,12 @@ pub fn send_answer(book: &[u8], out: &mut [u8], action: u8, format: u8, status: 
     let first = response_octet(book);
     let last = (status % 256) as u8;
     if action == 5 {
-        let five = [first, 10, action, format, last];
-        base_lists::store(out, 0, &five);
-        return 5;
+        base_lists::store(out, 0, &[first, 10, action, format, last]);
+        5
+    } else {
+        base_lists::store(out, 0, &[first, 10, action, last]);
+        4
     }
-    let four = [first, 10, action, last];
-    base_lists::store(out, 0, &four);
-    4
 }
 
 // Writes an ERROR response to a command with these ports at the start of the output; its length.
@@ -101,11 +97,10 @@ pub fn send_error(book: &[u8], out: &mut [u8], ads: bool, source: u8, destinatio
     let first = response_octet(book);
     if ads {
         let ports = ports_octet(destination, source);
-        let three = [first + 8, 1, ports];
-        base_lists::store(out, 0, &three);
-        return 3;
+        base_lists::store(out, 0, &[first + 8, 1, ports]);
+        3
+    } else {
+        base_lists::store(out, 0, &[first, 1]);
+        2
     }
-    let two = [first, 1];
-    base_lists::store(out, 0, &two);
-    2
 }

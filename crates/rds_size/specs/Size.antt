@@ -1,5 +1,5 @@
 -- How long the body of a frame to be written is, its parts in lent octets (RDS.md, sections 2 and 6); 1,521, one over N201, where no frame has such a body.
-use Rattle.std.specs.Prelude.{ℕ, ◌+◌, ◌-◌, ◌%◌, List, Bool, false, length, get_or, ltb, leb, eqb}
+use Rattle.std.specs.Prelude.{ℕ, ◌+◌, ◌-◌, ◌%◌, List, Bool, false, length, get_or, ltb, leb, eqb, is_some}
 use Rattle.rds_lists.specs.Sizes.{information_most, too_long}
 use Rattle.base_lists.specs.Seq.{pick, part, total}
 use Rattle.rds_entries.specs.declared.Entry.{Entry}
@@ -49,6 +49,5 @@ body_size s list items B.Empty = 0
 body_size s list items (B.Information start len) = information_size s start len items
 body_size s list items (B.Asking a p d start len f) = asking_size s a start len
 body_size s list items (B.Answer a f t) = pick (eqb a 5) 3 2
-body_size s list items (B.Query a some p) = pick some 3 1
-body_size s list items (B.List a some p n) = list_size s list a some n
-body_size s list items B.Wrong = too_long
+body_size s list items (B.Query a p) = pick (is_some p) 3 1
+body_size s list items (B.List a p n) = list_size s list a (is_some p) n

@@ -11,29 +11,22 @@ use rds_entries::Entry;
 const NONE: usize = 1521;
 
 // Whether len octets from start on lie within n.
+#[tactic(auto, unfolding(crate::specs::Size::inside))]
 fn lies_inside(n: usize, start: usize, len: usize) -> bool
     ensures { result ≡ inside n start len }
 {
-    if start <= n {
-        return len <= n - start;
-    }
-    false
+    start <= n && len <= n - start
 }
 
 // Whether len octets from start on are an Application ID.
+#[tactic(auto, using(crate::proofs::SizeTests::inside_ends), unfolding(crate::specs::Size::is_application))]
 fn is_application(bytes: &[u8], start: usize, len: usize) -> bool
     ensures { result ≡ is_application bytes.now start len }
 {
-    if len == 0 {
-        return false;
-    }
-    if 272 < len {
-        return false;
-    }
-    if lies_inside(bytes.len(), start, len) {
-        return rds_entries::application_length(&bytes[start..start + len]) == len;
-    }
-    false
+    0 < len
+        && len <= 272
+        && lies_inside(bytes.len(), start, len)
+        && rds_entries::application_length(&bytes[start..start + len]) == Some(len)
 }
 
 // The size of information; with `items` it is that of SET_PARAMETERS.
@@ -41,32 +34,22 @@ fn is_application(bytes: &[u8], start: usize, len: usize) -> bool
 fn information_size(bytes: &[u8], start: usize, len: usize, items: bool) -> usize
     ensures { (result ≡ information_size bytes.now start len items) × (result ≤ 1521) }
 {
-    if 1520 < len {
-        return NONE;
-    }
-    if lies_inside(bytes.len(), start, len) {
-        if items {
-            if rds_parameters::all_items(&bytes[start..start + len], len) {
-                return len;
-            }
-            return NONE;
-        }
-        return len;
-    }
-    NONE
+    let fits = len <= 1520
+        && lies_inside(bytes.len(), start, len)
+        && (!items || rds_parameters::all_items(&bytes[start..start + len], len));
+    if fits { len } else { NONE }
 }
 
 // The size of the command Reserve or Release.
+#[tactic(auto, using(crate::proofs::SizeTests::application_short), unfolding(crate::specs::Size::asking_size))]
 fn asking_size(bytes: &[u8], action: u8, start: usize, len: usize) -> usize
     ensures { (result ≡ asking_size bytes.now action start len) × (result ≤ 1521) }
 {
     if is_application(bytes, start, len) {
-        if action == 5 {
-            return 2 + len + 1;
-        }
-        return 2 + len;
+        2 + len + usize::from(action == 5)
+    } else {
+        NONE
     }
-    NONE
 }
 
 // The size of an entry of a list.
@@ -75,12 +58,10 @@ fn entry_size(bytes: &[u8], e: Entry, formats: bool) -> usize
     ensures { (result ≡ entry_size bytes.now formats e) × (result ≤ 1521) }
 {
     if is_application(bytes, e.start, e.len) {
-        if formats {
-            return 1 + e.len + 1;
-        }
-        return 1 + e.len;
+        1 + e.len + usize::from(formats)
+    } else {
+        NONE
     }
-    NONE
 }
 
 // The size of the first `count` entries.
@@ -89,25 +70,19 @@ fn entries_size(bytes: &[u8], list: [Entry; 15], formats: bool, count: usize) ->
     ensures { (result ≡ entries_size bytes.now formats list count) × (result ≤ 22815) }
 {
     let mut sum = 0;
-    let mut k = 0;
-    while k < count {
-        let e = list[k];
-        sum += entry_size(bytes, e, formats);
-        k += 1;
+    for k in 0..count {
+        sum += entry_size(bytes, list[k], formats);
     }
     sum
 }
 
 // The size of a list.
+#[tactic(auto, unfolding(crate::specs::Size::list_size))]
 fn list_size(bytes: &[u8], list: [Entry; 15], action: u8, some: bool, count: u8) -> usize
     ensures { (result ≡ list_size bytes.now list action some count) × (result ≤ 22818) }
 {
-    let n = base_lists::size(count % 16);
-    let entries = entries_size(bytes, list, 5 < action, n);
-    if some {
-        return 1 + entries + 2;
-    }
-    1 + entries
+    let entries = entries_size(bytes, list, 5 < action, usize::from(count % 16));
+    1 + entries + 2 * usize::from(some)
 }
 
 // The size of a body; with `items` its information is that of SET_PARAMETERS.
@@ -124,24 +99,12 @@ pub fn body_size(bytes: &[u8], body: Body, list: [Entry; 15], items: bool) -> us
             len,
             ..
         } => asking_size(bytes, action, start, len),
-        Body::Answer { action, .. } => {
-            if action == 5 {
-                return 3;
-            }
-            2
-        }
-        Body::Query { some, .. } => {
-            if some {
-                return 3;
-            }
-            1
-        }
+        Body::Answer { action, .. } => { if action == 5 { 3 } else { 2 } }
+        Body::Query { ports, .. } => 1 + 2 * usize::from(ports.is_some()),
         Body::List {
             action,
-            some,
+            ports,
             count,
-            ..
-        } => list_size(bytes, list, action, some, count),
-        Body::Wrong => NONE,
+        } => list_size(bytes, list, action, ports.is_some(), count),
     }
 }

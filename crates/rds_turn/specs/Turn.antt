@@ -22,9 +22,8 @@ application_of s B.Empty = []
 application_of s (B.Information a l) = []
 application_of s (B.Asking n p d start l f) = application_in s start
 application_of s (B.Answer n f t) = []
-application_of s (B.Query n o p) = []
-application_of s (B.List n o p c) = []
-application_of s B.Wrong = []
+application_of s (B.Query n p) = []
+application_of s (B.List n p c) = []
 
 -- R1: "d is reserved with s, X and the format that this command would be given"; where best is none it would be given none
 unfoldable pub repeats : List ℕ → List ℕ → ℕ → ℕ → ℕ → Bool → Bool
@@ -152,9 +151,8 @@ command_turn b app m B.Empty = plain_command m
 command_turn b app m (B.Information a l) = plain_command m
 command_turn b app m (B.Asking n s d start len f) = asking_turn b app n s (d % 16) start len f
 command_turn b app m (B.Answer n f t) = plain_command m
-command_turn b app m (B.Query n o p) = unbuilt n m
-command_turn b app m (B.List n o p c) = unbuilt n m
-command_turn b app m B.Wrong = plain_command m
+command_turn b app m (B.Query n p) = unbuilt n m
+command_turn b app m (B.List n p c) = unbuilt n m
 
 -- a response of the peer
 unfoldable pub response_turn : List ℕ → Bool → ℕ → Body → Turn
@@ -162,9 +160,8 @@ response_turn b ads m B.Empty = plain_response b ads m
 response_turn b ads m (B.Information a l) = plain_response b ads m
 response_turn b ads m (B.Asking n s d start len f) = plain_response b ads m
 response_turn b ads m (B.Answer n f t) = answer_turn b n f t
-response_turn b ads m (B.Query n o p) = plain_response b ads m
-response_turn b ads m (B.List n o p c) = plain_response b ads m
-response_turn b ads m B.Wrong = plain_response b ads m
+response_turn b ads m (B.Query n p) = plain_response b ads m
+response_turn b ads m (B.List n p c) = plain_response b ads m
 
 -- a frame from the peer, of which only U frames do anything
 unfoldable pub turn_by : List ℕ → List ℕ → Bool → Body → Kind → Turn
@@ -172,4 +169,3 @@ turn_by b app ads body (K.I a ns nr r) = quiet
 turn_by b app ads body (K.S a nr r) = quiet
 turn_by b app ads body (K.Ui nu) = quiet
 turn_by b app ads body (K.U m response) = pick response (response_turn b ads m body) (command_turn b app m body)
-turn_by b app ads body K.Wrong = quiet

@@ -1,7 +1,7 @@
 // What a frame from the peer does: its row, by the book, and what the row tells.
 #![tactic(auto)]
 
-ghost use Rattle.std.specs.Prelude.{◌≡◌, [], ◌≤◌, ◌<◌, length, drop};
+ghost use Rattle.std.specs.Prelude.{◌≡◌, ◌≤◌, ◌<◌, length, drop};
 ghost use Rattle.rds_book.specs.Book.{book_size, app_most, app_of_is, same};
 ghost use Rattle.rds_turn.specs.Turn.{application_in, application_of, repeats, collides, engaged, taken, reserved, held, released, given_format, wanting, changes, answering, reserve_turn, release_turn, asking_turn, quiet, told, own_reserved, answer_turn, error_turn, unbuilt, plain_command, plain_response, command_turn, response_turn, turn_by};
 
@@ -25,14 +25,11 @@ pub struct Turn {
 }
 
 // The frame from a place on.
+#[tactic(auto, using(rds_lists::proofs::ListFacts::rest))]
 fn rest_from(s: &[u8], start: usize) -> &[u8]
     ensures { result.now ≡ drop start s.now }
 {
-    let n = s.len();
-    if start <= n {
-        return &s[start..];
-    }
-    &s[n..]
+    &s[start.min(s.len())..]
 }
 
 // The Application ID that stands at a place of the frame.
@@ -41,15 +38,10 @@ fn application_in(s: &[u8], start: usize) -> &[u8]
     ensures { (result.now ≡ application_in s.now start) × (length result.now ≤ app_most) }
 {
     let rest = rest_from(s, start);
-    let n = rds_entries::application_length(rest);
-    &rest[..n]
-}
-
-// No Application ID.
-fn nothing(s: &[u8]) -> &[u8]
-    ensures { (result.now ≡ []) × (length result.now ≤ app_most) }
-{
-    &s[..0]
+    match rds_entries::application_length(rest) {
+        Some(n) => &rest[..n],
+        None => &rest[..0],
+    }
 }
 
 // The Application ID of a Reserve or Release command.
@@ -58,13 +50,8 @@ pub fn application_of(s: &[u8], body: Body) -> &[u8]
     ensures { (result.now ≡ application_of s.now body) × (length result.now ≤ app_most) }
 {
     match body {
-        Body::Empty => nothing(s),
-        Body::Information { .. } => nothing(s),
         Body::Asking { start, .. } => application_in(s, start),
-        Body::Answer { .. } => nothing(s),
-        Body::Query { .. } => nothing(s),
-        Body::List { .. } => nothing(s),
-        Body::Wrong => nothing(s),
+        _ => &[],
     }
 }
 
@@ -77,72 +64,47 @@ fn keeps(book: &[u8], p: usize, app: &[u8]) -> bool
 }
 
 // Whether port d is reserved with this peer's port, application and format.
+#[tactic(auto, unfolding(crate::specs::Turn::repeats))]
 fn is_repeat(book: &[u8], app: &[u8], d: u8, s: u8, given: u8, none: bool) -> bool
     requires { (length book.now ≡ book_size) × (d < 16) }
     ensures { result ≡ repeats book.now app.now d s given none }
 {
-    if none {
-        return false;
-    }
-    let p = base_lists::size(d);
+    let p = usize::from(d);
     let x = rds_book::place_at(book, p);
-    if x.tag == 0 {
-        return false;
-    }
-    if x.peer == s {
-        if x.format == given {
-            return keeps(book, p, app);
-        }
-        return false;
-    }
-    false
+    !none && x.tag != 0 && x.peer == s && x.format == given && keeps(book, p, app)
 }
 
 // Whether our outstanding command is a Reserve with this peer's port and application.
+#[tactic(auto, unfolding(crate::specs::Turn::collides))]
 fn is_collision(book: &[u8], app: &[u8], s: u8) -> bool
     requires { length book.now ≡ book_size }
     ensures { result ≡ collides book.now app.now s }
 {
     let c = rds_book::place_at(book, 0);
-    if c.tag == 2 {
-        return false;
-    }
-    if c.peer == s {
-        return keeps(book, 0, app);
-    }
-    false
+    c.tag != 2 && c.peer == s && keeps(book, 0, app)
 }
 
 // Whether port d is that of our outstanding command, and no collision.
+#[tactic(auto, unfolding(crate::specs::Turn::engaged))]
 fn is_engaged(book: &[u8], app: &[u8], d: u8, s: u8) -> bool
     requires { length book.now ≡ book_size }
     ensures { result ≡ engaged book.now app.now d s }
 {
     let c = rds_book::place_at(book, 0);
-    if c.tag == 0 {
-        return false;
-    }
-    if c.own == d {
-        if is_collision(book, app, s) {
-            return false;
-        }
-        return true;
-    }
-    false
+    c.tag != 0 && c.own == d && !is_collision(book, app, s)
 }
 
+#[tactic(auto, unfolding(crate::specs::Turn::taken))]
 fn is_taken(book: &[u8], app: &[u8], d: u8, s: u8) -> bool
     requires { (length book.now ≡ book_size) × (d < 16) }
     ensures { result ≡ taken book.now app.now d s }
 {
-    let x = rds_book::place_at(book, base_lists::size(d));
-    if x.tag == 0 {
-        return is_engaged(book, app, d, s);
-    }
-    true
+    let x = rds_book::place_at(book, usize::from(d));
+    x.tag != 0 || is_engaged(book, app, d, s)
 }
 
 // The row of a Reserve command.
+#[tactic(auto, unfolding(crate::specs::Turn::reserved))]
 fn reserve_row(book: &[u8], app: &[u8], d: u8, s: u8, given: u8, none: bool) -> Row
     requires { (length book.now ≡ book_size) × (d < 16) }
     ensures { result ≡ reserved book.now app.now d s given none }
@@ -155,16 +117,13 @@ fn reserve_row(book: &[u8], app: &[u8], d: u8, s: u8, given: u8, none: bool) -> 
     rds_rows::reserve_row(again, true, taken, none)
 }
 
+#[tactic(auto, unfolding(crate::specs::Turn::held))]
 fn is_held(book: &[u8], app: &[u8], d: u8) -> bool
     requires { (length book.now ≡ book_size) × (d < 16) }
     ensures { result ≡ held book.now app.now d }
 {
-    let p = base_lists::size(d);
-    let x = rds_book::place_at(book, p);
-    if x.tag == 0 {
-        return false;
-    }
-    keeps(book, p, app)
+    let p = usize::from(d);
+    rds_book::place_at(book, p).tag != 0 && keeps(book, p, app)
 }
 
 // The row of a Release command.
@@ -173,30 +132,27 @@ fn release_row(book: &[u8], app: &[u8], d: u8) -> Row
     requires { (length book.now ≡ book_size) × (d < 16) }
     ensures { result ≡ released book.now app.now d }
 {
-    if d == 0 {
-        return rds_rows::release_row(false, false);
-    }
-    rds_rows::release_row(true, is_held(book, app, d))
+    rds_rows::release_row(d != 0, d != 0 && is_held(book, app, d))
 }
 
 // The format that a Reserve command is given, 0 for none.
+#[tactic(auto, unfolding(crate::specs::Turn::given_format))]
 fn given_format(action: u8, offered: u8, ours: u8) -> u8
     ensures { result ≡ given_format action offered ours }
 {
     if action == 5 {
-        return rds_rows::best(offered, ours);
+        rds_rows::best(offered, ours)
+    } else {
+        0
     }
-    0
 }
 
 // Whether a Reserve command wants a format and is given none.
+#[tactic(auto, unfolding(crate::specs::Turn::wanting))]
 fn is_wanting(action: u8, given: u8) -> bool
     ensures { result ≡ wanting action given }
 {
-    if action == 5 {
-        return given == 0;
-    }
-    false
+    action == 5 && given == 0
 }
 
 // Whether a row changes a port; `was`: our command's port is reserved.
@@ -204,38 +160,25 @@ fn has_changed(row: Row, was: bool) -> bool
     ensures { result ≡ changes row was }
 {
     match row {
-        Row::R1 => false,
-        Row::R2 => false,
-        Row::R3 => false,
-        Row::R4 => false,
-        Row::R5 => true,
-        Row::R6 => false,
-        Row::R7 => true,
-        Row::R8 => false,
-        Row::R9 => false,
-        Row::R10 => true,
-        Row::R11 => false,
+        Row::R5 | Row::R7 | Row::R10 => true,
         Row::R12 => was,
-        Row::R13 => false,
-        Row::R14 => false,
-        Row::R15 => false,
+        _ => false,
     }
 }
 
 // What we answer to a command of the peer.
+#[tactic(auto, unfolding(crate::specs::Turn::answering))]
 fn answering(row: Row, action: u8, format: u8, d: u8, s: u8, start: usize, len: usize) -> Turn
     ensures { result ≡ answering row action format d s start len }
 {
-    let status = rds_rows::status(row) as u16;
-    let changed = has_changed(row, false);
     Turn {
         row,
         action,
-        status,
+        status: u16::from(rds_rows::status(row)),
         own: d,
         peer: s,
         format,
-        changed,
+        changed: has_changed(row, false),
         start,
         len,
         m: 0,
@@ -243,6 +186,7 @@ fn answering(row: Row, action: u8, format: u8, d: u8, s: u8, start: usize, len: 
 }
 
 // A Reserve command that is given this format.
+#[tactic(auto, unfolding(crate::specs::Turn::reserve_turn))]
 fn reserve_turn(
     book: &[u8],
     app: &[u8],
@@ -262,6 +206,7 @@ fn reserve_turn(
 }
 
 // A Reserve or Release command.
+#[tactic(auto, unfolding(crate::specs::Turn::asking_turn, crate::specs::Turn::release_turn))]
 fn asking_turn(
     book: &[u8],
     app: &[u8],
@@ -301,6 +246,7 @@ fn quiet() -> Turn
 }
 
 // What is told of our outstanding command, which now is answered.
+#[tactic(auto, unfolding(crate::specs::Turn::told))]
 fn told(book: &[u8], row: Row, status: u16, format: u8, changed: bool) -> Turn
     requires { length book.now ≡ book_size }
     ensures { result ≡ told book.now row status format changed }
@@ -314,92 +260,78 @@ fn told(book: &[u8], row: Row, status: u16, format: u8, changed: bool) -> Turn
         peer: c.peer,
         format,
         changed,
-        start: 0,
-        len: 0,
-        m: 0,
+        ..quiet()
     }
 }
 
 // Whether the port of our outstanding command is reserved.
+#[tactic(auto, unfolding(crate::specs::Turn::own_reserved))]
 fn own_reserved(book: &[u8]) -> bool
     requires { length book.now ≡ book_size }
     ensures { result ≡ own_reserved book.now }
 {
     let c = rds_book::place_at(book, 0);
-    let x = rds_book::place_at(book, base_lists::size(c.own) % 16);
-    if x.tag == 0 {
-        return false;
-    }
-    true
+    rds_book::place_at(book, usize::from(c.own) % 16).tag != 0
 }
 
 // A response of MANAGE_PORT.
+#[tactic(auto, unfolding(crate::specs::Turn::answer_turn))]
 fn answer_turn(book: &[u8], action: u8, format: u8, status: u8) -> Turn
     requires { length book.now ≡ book_size }
     ensures { result ≡ answer_turn book.now action format status }
 {
     let c = rds_book::place_at(book, 0);
-    if c.tag == 0 {
+    if c.tag == 0 || c.tag != action {
         return quiet();
     }
-    if c.tag == action {
-        let row = rds_rows::answer_row(action == 2, status);
-        let changed = has_changed(row, own_reserved(book));
-        return told(book, row, status as u16, format, changed);
-    }
-    quiet()
+    let row = rds_rows::answer_row(action == 2, status);
+    let changed = has_changed(row, own_reserved(book));
+    told(book, row, u16::from(status), format, changed)
 }
 
 // An ERROR response.
+#[tactic(auto, unfolding(crate::specs::Turn::error_turn))]
 fn error_turn(book: &[u8], ads: bool) -> Turn
     requires { length book.now ≡ book_size }
     ensures { result ≡ error_turn book.now ads }
 {
-    if ads {
-        return quiet();
+    if ads || rds_book::place_at(book, 0).tag == 0 {
+        quiet()
+    } else {
+        told(book, Row::R14, 256, 0, false)
     }
-    let c = rds_book::place_at(book, 0);
-    if c.tag == 0 {
-        return quiet();
-    }
-    told(book, Row::R14, 256, 0, false)
 }
 
 // A command that isn't built.
+#[tactic(auto, unfolding(crate::specs::Turn::unbuilt))]
 fn unbuilt(action: u8, m: u8) -> Turn
     ensures { result ≡ unbuilt action m }
 {
     Turn {
         row: Row::R9,
         action,
-        status: 0,
-        own: 0,
-        peer: 0,
-        format: 0,
-        changed: false,
-        start: 0,
-        len: 0,
         m,
+        ..quiet()
     }
 }
 
+#[tactic(auto, unfolding(crate::specs::Turn::plain_command))]
 fn plain_command(m: u8) -> Turn
     ensures { result ≡ plain_command m }
 {
-    if m == 1 {
-        return quiet();
-    }
-    unbuilt(0, m)
+    if m == 1 { quiet() } else { unbuilt(0, m) }
 }
 
+#[tactic(auto, unfolding(crate::specs::Turn::plain_response))]
 fn plain_response(book: &[u8], ads: bool, m: u8) -> Turn
     requires { length book.now ≡ book_size }
     ensures { result ≡ plain_response book.now ads m }
 {
     if m == 1 {
-        return error_turn(book, ads);
+        error_turn(book, ads)
+    } else {
+        quiet()
     }
-    quiet()
 }
 
 #[tactic(auto, unfolding(crate::specs::Turn::command_turn))]
@@ -408,8 +340,6 @@ fn command_turn(book: &[u8], app: &[u8], m: u8, body: Body) -> Turn
     ensures { result ≡ command_turn book.now app.now m body }
 {
     match body {
-        Body::Empty => plain_command(m),
-        Body::Information { .. } => plain_command(m),
         Body::Asking {
             action,
             source,
@@ -427,10 +357,8 @@ fn command_turn(book: &[u8], app: &[u8], m: u8, body: Body) -> Turn
             len,
             format,
         ),
-        Body::Answer { .. } => plain_command(m),
-        Body::Query { action, .. } => unbuilt(action, m),
-        Body::List { action, .. } => unbuilt(action, m),
-        Body::Wrong => plain_command(m),
+        Body::Query { action, .. } | Body::List { action, .. } => unbuilt(action, m),
+        _ => plain_command(m),
     }
 }
 
@@ -440,17 +368,12 @@ fn response_turn(book: &[u8], ads: bool, m: u8, body: Body) -> Turn
     ensures { result ≡ response_turn book.now ads m body }
 {
     match body {
-        Body::Empty => plain_response(book, ads, m),
-        Body::Information { .. } => plain_response(book, ads, m),
-        Body::Asking { .. } => plain_response(book, ads, m),
         Body::Answer {
             action,
             format,
             status,
         } => answer_turn(book, action, format, status),
-        Body::Query { .. } => plain_response(book, ads, m),
-        Body::List { .. } => plain_response(book, ads, m),
-        Body::Wrong => plain_response(book, ads, m),
+        _ => plain_response(book, ads, m),
     }
 }
 
@@ -461,15 +384,8 @@ pub fn turn_of(book: &[u8], app: &[u8], ads: bool, kind: Kind, body: Body) -> Tu
     ensures { result ≡ turn_by book.now app.now ads body kind }
 {
     match kind {
-        Kind::I { .. } => quiet(),
-        Kind::S { .. } => quiet(),
-        Kind::Ui { .. } => quiet(),
-        Kind::U { m, response } => {
-            if response {
-                return response_turn(book, ads, m, body);
-            }
-            command_turn(book, app, m, body)
-        }
-        Kind::Wrong => quiet(),
+        Kind::U { m, response: true } => response_turn(book, ads, m, body),
+        Kind::U { m, .. } => command_turn(book, app, m, body),
+        _ => quiet(),
     }
 }

@@ -1,5 +1,6 @@
 -- The words that the C interface has for a frame (RDS.md, section 6, "Words of a frame").
-use Rattle.std.specs.Prelude.{ℕ, List, [], ◌∷◌, ◌++◌}
+use Rattle.std.specs.Prelude.{ℕ, List, [], ◌∷◌, ◌++◌, is_some}
+use Rattle.std.specs.Option.{unwrap_or}
 use Rattle.base_lists.specs.Seq.{bit}
 use Rattle.rds_frame.specs.declared.Kind.{Kind}
 use Rattle.rds_frame.specs.declared.Kind.TheVariants as K
@@ -15,7 +16,6 @@ kind_words (K.I a ns nr r) ads s d = 1 ∷ ads ∷ s ∷ d ∷ bit a ∷ ns ∷ 
 kind_words (K.S a nr r) ads s d = 2 ∷ ads ∷ s ∷ d ∷ bit a ∷ 0 ∷ nr ∷ r ∷ 0 ∷ 0 ∷ 0 ∷ []
 kind_words (K.Ui nu) ads s d = 3 ∷ ads ∷ s ∷ d ∷ 0 ∷ 0 ∷ 0 ∷ 0 ∷ nu ∷ 0 ∷ 0 ∷ []
 kind_words (K.U m response) ads s d = 4 ∷ ads ∷ s ∷ d ∷ 0 ∷ 0 ∷ 0 ∷ 0 ∷ 0 ∷ m ∷ bit response ∷ []
-kind_words K.Wrong ads s d = 0 ∷ ads ∷ s ∷ d ∷ 0 ∷ 0 ∷ 0 ∷ 0 ∷ 0 ∷ 0 ∷ 0 ∷ []
 
 unfoldable pub head_words : Head → List ℕ
 head_words h = kind_words h.kind (bit h.ads) h.source h.destination
@@ -26,9 +26,8 @@ body_words B.Empty = 0 ∷ 0 ∷ 0 ∷ 0 ∷ 0 ∷ 0 ∷ 0 ∷ 0 ∷ 0 ∷ 0 ∷
 body_words (B.Information a l) = a ∷ l ∷ 0 ∷ 0 ∷ 0 ∷ 0 ∷ 0 ∷ 0 ∷ 0 ∷ 0 ∷ 0 ∷ 0 ∷ 0 ∷ []
 body_words (B.Asking n s d a l f) = 0 ∷ 0 ∷ n ∷ 0 ∷ s ∷ d ∷ a ∷ l ∷ f ∷ 0 ∷ 0 ∷ 0 ∷ 0 ∷ []
 body_words (B.Answer n f t) = 0 ∷ 0 ∷ n ∷ t ∷ 0 ∷ 0 ∷ 0 ∷ 0 ∷ f ∷ 0 ∷ 0 ∷ 0 ∷ 0 ∷ []
-body_words (B.Query n o p) = 0 ∷ 0 ∷ n ∷ 0 ∷ 0 ∷ 0 ∷ 0 ∷ 0 ∷ 0 ∷ bit o ∷ p ∷ 0 ∷ 0 ∷ []
-body_words (B.List n o p c) = 0 ∷ 0 ∷ n ∷ 0 ∷ 0 ∷ 0 ∷ 0 ∷ 0 ∷ 0 ∷ bit o ∷ p ∷ c ∷ 0 ∷ []
-body_words B.Wrong = 0 ∷ 0 ∷ 0 ∷ 0 ∷ 0 ∷ 0 ∷ 0 ∷ 0 ∷ 0 ∷ 0 ∷ 0 ∷ 0 ∷ 0 ∷ []
+body_words (B.Query n p) = 0 ∷ 0 ∷ n ∷ 0 ∷ 0 ∷ 0 ∷ 0 ∷ 0 ∷ 0 ∷ bit (is_some p) ∷ unwrap_or p 0 ∷ 0 ∷ 0 ∷ []
+body_words (B.List n p c) = 0 ∷ 0 ∷ n ∷ 0 ∷ 0 ∷ 0 ∷ 0 ∷ 0 ∷ 0 ∷ bit (is_some p) ∷ unwrap_or p 0 ∷ c ∷ 0 ∷ []
 
 -- section 6: "entry k: Source Port, Destination Port, start and length of its Application ID, Serialization Format"
 unfoldable pub entry_words : Entry → List ℕ
@@ -53,7 +52,6 @@ part_by (K.I a ns nr r) start len ads s d = 1 ∷ start ∷ len ∷ ads ∷ s �
 part_by (K.S a nr r) start len ads s d = 2 ∷ 0 ∷ 0 ∷ ads ∷ s ∷ d ∷ 0 ∷ 0 ∷ []
 part_by (K.Ui nu) start len ads s d = 3 ∷ start ∷ len ∷ ads ∷ s ∷ d ∷ nu ∷ 0 ∷ []
 part_by (K.U m response) start len ads s d = 4 ∷ 0 ∷ 0 ∷ ads ∷ s ∷ d ∷ 0 ∷ 0 ∷ []
-part_by K.Wrong start len ads s d = 0 ∷ 0 ∷ 0 ∷ ads ∷ s ∷ d ∷ 0 ∷ 0 ∷ []
 
 unfoldable pub part_words : Head → ℕ → List ℕ
 part_words h len = part_by h.kind h.end len (bit h.ads) h.source h.destination

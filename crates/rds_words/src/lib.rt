@@ -5,7 +5,6 @@ ghost use Rattle.std.specs.Prelude.{◌≡◌, ◌≤◌, length};
 ghost use Rattle.base_lists.specs.Seq.{put};
 ghost use Rattle.rds_words.specs.Words.{head_words, body_words, entry_words, entries_words, list_words, words_of, part_words};
 
-use base_lists::flag;
 use rds_body::Body;
 use rds_entries::Entry;
 use rds_frame::{Head, Kind};
@@ -16,26 +15,35 @@ use rds_reading::Frame;
 fn head_words(head: Head) -> [u64; 11]
     ensures { result ≡ head_words head }
 {
-    let kind = head.kind;
-    let ads = flag(head.ads);
-    let from = head.source as u64;
-    let to = head.destination as u64;
-    match kind {
+    let mut words = [0; 11];
+    words[1] = u64::from(head.ads);
+    words[2] = u64::from(head.source);
+    words[3] = u64::from(head.destination);
+    match head.kind {
         Kind::I { a, ns, nr, r } => {
-            let a = flag(a);
-            [1, ads, from, to, a, ns as u64, nr as u64, r as u64, 0, 0, 0]
+            words[0] = 1;
+            words[4] = u64::from(a);
+            words[5] = u64::from(ns);
+            words[6] = u64::from(nr);
+            words[7] = u64::from(r);
         }
         Kind::S { a, nr, r } => {
-            let a = flag(a);
-            [2, ads, from, to, a, 0, nr as u64, r as u64, 0, 0, 0]
+            words[0] = 2;
+            words[4] = u64::from(a);
+            words[6] = u64::from(nr);
+            words[7] = u64::from(r);
         }
-        Kind::Ui { nu } => [3, ads, from, to, 0, 0, 0, 0, nu as u64, 0, 0],
+        Kind::Ui { nu } => {
+            words[0] = 3;
+            words[8] = u64::from(nu);
+        }
         Kind::U { m, response } => {
-            let response = flag(response);
-            [4, ads, from, to, 0, 0, 0, 0, 0, m as u64, response]
+            words[0] = 4;
+            words[9] = u64::from(m);
+            words[10] = u64::from(response);
         }
-        Kind::Wrong => [0, ads, from, to, 0, 0, 0, 0, 0, 0, 0],
     }
+    words
 }
 
 // Words 11 to 23: start and length of the information, Action, Status, the ports of the body, start and length of the Application ID, format, bitmap, number of entries, zero.
@@ -43,10 +51,12 @@ fn head_words(head: Head) -> [u64; 11]
 fn body_words(body: Body) -> [u64; 13]
     ensures { result ≡ body_words body }
 {
+    let mut words = [0; 13];
     match body {
-        Body::Empty => [0; 13],
+        Body::Empty => {}
         Body::Information { start, len } => {
-            [start as u64, len as u64, 0, 0, 0, 0, 0, 0, 0, 0, 0, 0, 0]
+            words[0] = start as u64;
+            words[1] = len as u64;
         }
         Body::Asking {
             action,
@@ -55,98 +65,52 @@ fn body_words(body: Body) -> [u64; 13]
             start,
             len,
             format,
-        } => [
-            0,
-            0,
-            action as u64,
-            0,
-            source as u64,
-            destination as u64,
-            start as u64,
-            len as u64,
-            format as u64,
-            0,
-            0,
-            0,
-            0,
-        ],
+        } => {
+            words[2] = u64::from(action);
+            words[4] = u64::from(source);
+            words[5] = u64::from(destination);
+            words[6] = start as u64;
+            words[7] = len as u64;
+            words[8] = u64::from(format);
+        }
         Body::Answer {
             action,
             format,
             status,
-        } => [
-            0,
-            0,
-            action as u64,
-            status as u64,
-            0,
-            0,
-            0,
-            0,
-            format as u64,
-            0,
-            0,
-            0,
-            0,
-        ],
-        Body::Query {
-            action,
-            some,
-            ports,
         } => {
-            let some = flag(some);
-            [
-                0,
-                0,
-                action as u64,
-                0,
-                0,
-                0,
-                0,
-                0,
-                0,
-                some,
-                ports as u64,
-                0,
-                0,
-            ]
+            words[2] = u64::from(action);
+            words[3] = u64::from(status);
+            words[8] = u64::from(format);
+        }
+        Body::Query { action, ports } => {
+            words[2] = u64::from(action);
+            words[9] = u64::from(ports.is_some());
+            words[10] = u64::from(ports.unwrap_or(0));
         }
         Body::List {
             action,
-            some,
             ports,
             count,
         } => {
-            let some = flag(some);
-            [
-                0,
-                0,
-                action as u64,
-                0,
-                0,
-                0,
-                0,
-                0,
-                0,
-                some,
-                ports as u64,
-                count as u64,
-                0,
-            ]
+            words[2] = u64::from(action);
+            words[9] = u64::from(ports.is_some());
+            words[10] = u64::from(ports.unwrap_or(0));
+            words[11] = u64::from(count);
         }
-        Body::Wrong => [0; 13],
     }
+    words
 }
 
+#[tactic(auto, unfolding(crate::specs::Words::entry_words))]
 fn entry_words(e: Entry) -> [u64; 5]
     ensures { result ≡ entry_words e }
 {
     [
-        e.source as u64,
-        e.destination as u64,
+        u64::from(e.source),
+        u64::from(e.destination),
         e.start as u64,
         e.len as u64,
-        e.format as u64,
+        u64::from(e.format),
     ]
 }
 
@@ -155,12 +119,8 @@ fn store_entries(fields: &mut [u64], list: [Entry; 15])
     requires { 100 ≤ length fields.old }
     ensures { fields.new ≡ put fields.old 24 (entries_words list) }
 {
-    let mut k = 0;
-    while k < 15 {
-        let e = list[k];
-        let five = entry_words(e);
-        base_lists::store_words(&mut *fields, 24 + 5 * k, &five);
-        k += 1;
+    for (k, &e) in list.iter().enumerate() {
+        base_lists::store(fields, 24 + 5 * k, &entry_words(e));
     }
 }
 
@@ -169,9 +129,8 @@ fn store_list(fields: &mut [u64], list: [Entry; 15])
     requires { 100 ≤ length fields.old }
     ensures { fields.new ≡ put fields.old 24 (list_words list) }
 {
-    let last = [0u64];
-    store_entries(&mut *fields, list);
-    base_lists::store_words(fields, 99, &last);
+    store_entries(fields, list);
+    base_lists::store(fields, 99, &[0]);
 }
 
 // Stores the words of a frame.
@@ -179,13 +138,9 @@ pub fn store_fields(fields: &mut [u64], f: Frame)
     requires { 100 ≤ length fields.old }
     ensures { fields.new ≡ put fields.old 0 (words_of f) }
 {
-    let head = f.head;
-    let body = f.body;
     let list = f.list;
-    let front = head_words(head);
-    let middle = body_words(body);
-    base_lists::store_words(&mut *fields, 0, &front);
-    base_lists::store_words(&mut *fields, 11, &middle);
+    base_lists::store(fields, 0, &head_words(f.head));
+    base_lists::store(fields, 11, &body_words(f.body));
     store_list(fields, list);
 }
 
@@ -194,16 +149,15 @@ pub fn store_fields(fields: &mut [u64], f: Frame)
 pub fn part_words(head: Head, len: usize) -> [u64; 8]
     ensures { result ≡ part_words head len }
 {
-    let kind = head.kind;
-    let ads = flag(head.ads);
-    let from = head.source as u64;
-    let to = head.destination as u64;
+    let ads = u64::from(head.ads);
+    let from = u64::from(head.source);
+    let to = u64::from(head.destination);
     let start = head.end as u64;
-    match kind {
-        Kind::I { ns, .. } => [1, start, len as u64, ads, from, to, ns as u64, 0],
+    let len = len as u64;
+    match head.kind {
+        Kind::I { ns, .. } => [1, start, len, ads, from, to, u64::from(ns), 0],
         Kind::S { .. } => [2, 0, 0, ads, from, to, 0, 0],
-        Kind::Ui { nu } => [3, start, len as u64, ads, from, to, nu as u64, 0],
+        Kind::Ui { nu } => [3, start, len, ads, from, to, u64::from(nu), 0],
         Kind::U { .. } => [4, 0, 0, ads, from, to, 0, 0],
-        Kind::Wrong => [0, 0, 0, ads, from, to, 0, 0],
     }
 }

@@ -20,7 +20,6 @@ length_kind_words (K.I a ns nr r) e s d = refl
 length_kind_words (K.S a nr r) e s d = refl
 length_kind_words (K.Ui nu) e s d = refl
 length_kind_words (K.U m response) e s d = refl
-length_kind_words K.Wrong e s d = refl
 
 length_body_words : (b : Body) → length (body_words b) ≡ 13
 unfolding body_words
@@ -28,9 +27,8 @@ length_body_words B.Empty = refl
 length_body_words (B.Information a l) = refl
 length_body_words (B.Asking n s d a l f) = refl
 length_body_words (B.Answer n f t) = refl
-length_body_words (B.Query n o p) = refl
-length_body_words (B.List n o p c) = refl
-length_body_words B.Wrong = refl
+length_body_words (B.Query n p) = refl
+length_body_words (B.List n p c) = refl
 
 -- a frame has 100 words
 pub length_words_holds : (f : Frame) → length f.list ≡ 15 → length (words_of f) ≡ 100

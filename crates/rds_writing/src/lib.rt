@@ -6,7 +6,6 @@ ghost use Rattle.rds_datagram.specs.Put.{done};
 ghost use Rattle.rds_writing.specs.Write.{same_words, is_items, accepts, write_of};
 
 use base_numbers::Refusal;
-use rds_datagram::Putting;
 use rds_frame::Kind;
 use rds_reading::Frame;
 
@@ -17,11 +16,8 @@ fn same_words(words: &[u64], f: Frame) -> bool
 {
     let mut own = [0u64; 100];
     rds_words::store_fields(&mut own, f);
-    let mut i = 0;
-    while i < 100 {
-        if own[i] == words[i] {
-            i += 1;
-        } else {
+    for i in 0..100 {
+        if own[i] != words[i] {
             return false;
         }
     }
@@ -33,44 +29,36 @@ fn same_words(words: &[u64], f: Frame) -> bool
 fn is_items(kind: Kind) -> bool
     ensures { result ≡ is_items kind }
 {
-    match kind {
-        Kind::I { .. } => false,
-        Kind::S { .. } => false,
-        Kind::Ui { .. } => false,
-        Kind::U { m, .. } => m == 11,
-        Kind::Wrong => false,
-    }
+    matches!(kind, Kind::U { m: 11, .. })
 }
 
 // Whether some frame reads as these words, which say f: with the parts in the lent octets.
+#[tactic(auto, unfolding(crate::specs::Write::accepts))]
 fn accepted(words: &[u64], bytes: &[u8], f: Frame) -> bool
     requires { (100 ≤ length words.now) × (length f.list ≡ 15) }
     ensures { result ≡ accepts words.now bytes.now f }
 {
-    if same_words(words, f) {
-        let head = f.head;
-        let kind = head.kind;
-        let body = f.body;
-        let list = f.list;
-        return rds_size::body_size(bytes, body, list, is_items(kind)) <= 1520;
-    }
-    false
+    let list = f.list;
+    same_words(words, f) && rds_size::body_size(bytes, f.body, list, is_items(f.head.kind)) <= 1520
 }
 
 // Writes the frame that the words say at the start of the output.
-pub fn write(words: &[u64], bytes: &[u8], from_network: bool, out: &mut [u8]) -> Putting
+#[tactic(auto, using(crate::proofs::Said::said_full, crate::proofs::Said::accepted_fits), unfolding(crate::specs::Write::write_of))]
+pub fn write(
+    words: &[u64],
+    bytes: &[u8],
+    from_network: bool,
+    out: &mut [u8],
+) -> Result<usize, Refusal>
     ensures { done result out.new ≡ write_of words.now bytes.now from_network out.old }
 {
-    if words.len() < 100 {
-        return Putting::Refused(Refusal::WrongSize);
+    if words.len() < 100 || out.len() < 1523 {
+        return Err(Refusal::WrongSize);
     }
-    if out.len() < 1523 {
-        return Putting::Refused(Refusal::WrongSize);
+    match rds_said::said(words) {
+        Some(f) if accepted(words, bytes, f) => {
+            Ok(rds_encoding::put_frame(out, bytes, f, from_network))
+        }
+        _ => Err(Refusal::WrongFrame),
     }
-    let f = rds_said::said(words);
-    if accepted(words, bytes, f) {
-        let n = rds_encoding::put_frame(out, bytes, f, from_network);
-        return Putting::Length(n);
-    }
-    Putting::Refused(Refusal::WrongFrame)
 }

@@ -11,8 +11,7 @@ use borrow.Author.Tests.{ltb-false, le-ltb, lt-leb, ne_eqb}
 use Rattle.base_lists.specs.Seq.{pick, bit, part}
 use Rattle.base_lists.proofs.StoresAndParts.{length_part}
 use Rattle.rds_entries.specs.declared.Entry.{Entry}
-use Rattle.rds_entries.specs.declared.Got.TheVariants.{One}
-use Rattle.rds_entries.specs.Entries.{application_length, entry_at}
+use Rattle.rds_entries.specs.Entries.{one, application_length, entry_at}
 use Rattle.rds_pieces.specs.Octets.{ports_octet}
 use Rattle.rds_encoding.specs.Encoding.{entry_octets}
 use Rattle.rds_written.proofs.Narrow.{NarrowEntry}
@@ -46,7 +45,7 @@ module _ (s : List ℕ) where
     P = part s e.start e.len
 
     -- with a format
-    with_format : NarrowEntry s true e → entry_at (p ∷ (P ++ (e.format % 8 ∷ rest))) at true ≡ One (moved at e) (1 + e.len + 1)
+    with_format : NarrowEntry s true e → entry_at (p ∷ (P ++ (e.format % 8 ∷ rest))) at true ≡ one (moved at e) (1 + e.len + 1)
     unfolding entry_at
     with_format n =
         let some : suc (length (P ++ (e.format % 8 ∷ rest))) ≡ 0 → ⊥ = λ h. omega arith in
@@ -58,9 +57,9 @@ module _ (s : List ℕ) where
         let to : p % 16 ≡ e.destination = omega (arith, n.source_narrow, n.destination_narrow) in
         let f : get_or (p ∷ (P ++ (e.format % 8 ∷ rest))) (1 + e.len) 0 % 8 ≡ e.format = ap (λ (x : ℕ). x % 8) g ∙ omega (arith, n.format_narrow) in
         rw (ne_eqb _ _ some, a, ne_eqb _ _ n.application.some, lt-leb _ _ long)
-        (λ i. One (record { source = from i; destination = to i; start = at + 1; len = e.len; format = f i }) (1 + e.len + 1))
+        (λ i. one (record { source = from i; destination = to i; start = at + 1; len = e.len; format = f i }) (1 + e.len + 1))
 
-    without_format : NarrowEntry s false e → entry_at (p ∷ (P ++ rest)) at false ≡ One (moved at e) (1 + e.len)
+    without_format : NarrowEntry s false e → entry_at (p ∷ (P ++ rest)) at false ≡ one (moved at e) (1 + e.len)
     unfolding entry_at
     without_format n =
         let some : suc (length (P ++ rest)) ≡ 0 → ⊥ = λ h. omega arith in
@@ -68,12 +67,12 @@ module _ (s : List ℕ) where
         let from : p / 16 ≡ e.source = omega (arith, n.source_narrow, n.destination_narrow) in
         let to : p % 16 ≡ e.destination = omega (arith, n.source_narrow, n.destination_narrow) in
         rw (ne_eqb _ _ some, a, ne_eqb _ _ n.application.some)
-        (λ i. One (record { source = from i; destination = to i; start = at + 1; len = e.len; format = sym (n.no_format refl) i }) (1 + e.len))
+        (λ i. one (record { source = from i; destination = to i; start = at + 1; len = e.len; format = sym (n.no_format refl) i }) (1 + e.len))
 
     -- the entry that is written, before the rest
-    pub entry_again : (f : Bool) → NarrowEntry s f e → entry_at (entry_octets s f e ++ rest) at f ≡ One (moved at e) (1 + e.len + bit f)
+    pub entry_again : (f : Bool) → NarrowEntry s f e → entry_at (entry_octets s f e ++ rest) at f ≡ one (moved at e) (1 + e.len + bit f)
     unfolding entry_octets
     entry_again true n = ap (λ (x : List ℕ). entry_at (p ∷ x) at true) (append_assoc P (e.format % 8 ∷ []) rest) ∙ with_format n
     entry_again false n =
         let z : 1 + e.len ≡ 1 + e.len + 0 = omega arith in
-        ap (λ (x : List ℕ). entry_at (p ∷ (x ++ rest)) at false) (append-nil P) ∙ without_format n ∙ ap (One (moved at e)) z
+        ap (λ (x : List ℕ). entry_at (p ∷ (x ++ rest)) at false) (append-nil P) ∙ without_format n ∙ ap (one (moved at e)) z

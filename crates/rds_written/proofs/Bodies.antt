@@ -1,8 +1,11 @@
 -- The body that words say, as it is written, reads as itself after any header. Assumes nothing.
 use Prim.Native.Nat.{ℕ, ◌+◌, ◌-◌, ◌*◌, ◌/◌, ◌%◌, ◌≤◌, ◌<◌}
 use native.Mathlib.Omega.{arith}
-use mathlib.Core.Path.{◌≡◌, refl, sym, ap, ◌∙◌}
+use mathlib.Core.Path.{◌≡◌, refl, sym, ap, subst, ◌∙◌}
 use mathlib.Core.List.{List, [], ◌∷◌, ◌++◌, append-nil, append_assoc, map}
+use Rattle.std.specs.Prelude.{Option, Some, None, is_some}
+use Rattle.std.specs.Option.{unwrap_or, option_map}
+use Rattle.std.proofs.lemmas.Option.{none-some}
 use mathlib.Core.Bool.{Bool, true, false}
 use lib.ListN.{length, take, drop, length-append}
 use lib.Seq.{drop_at, take_at, take_all, drop-append-add}
@@ -19,33 +22,37 @@ use Rattle.rds_body.specs.declared.Body.TheVariants as B
 use Rattle.rds_body.specs.declared.Form.{Form}
 use Rattle.rds_body.specs.declared.Form.TheVariants as F
 use Rattle.rds_body.specs.declared.Managed.{Managed}
-use Rattle.rds_body.specs.Body.{form_of, no_list, managed_of}
-use Rattle.rds_reading.specs.Read.{empty_of, items_of, manage_of, u_body, body_by, sound_body}
+use Rattle.rds_body.specs.Body.{form_of, no_list, lone, managed_of}
+use Rattle.rds_reading.specs.Read.{empty_of, items_of, manage_of, u_body, body_by}
 use Rattle.rds_size.specs.Size.{inside, information_size, entries_size, list_size, body_size}
 use Rattle.rds_size.proofs.SizeTests.{Application}
 use Rattle.rds_size.proofs.Fits.{information_fits}
-use Rattle.rds_pieces.specs.Octets.{fixed_of, asking_pieces, answer_pieces, query_pieces, list_pieces, pieces_of}
+use Rattle.rds_pieces.specs.Octets.{bitmap_octets, fixed_of, asking_pieces, answer_pieces, query_pieces, list_pieces, pieces_of}
 use Rattle.rds_encoding.specs.Encoding.{entries_octets, pieces_octets}
 use Rattle.rds_said.specs.Said.{word, set?, format_said, ports_said, asking_said, form_said, manage_said, u_said, body_said, entry_said, list_said, entries_said}
 use Rattle.rds_writing.specs.Write.{is_items}
 use Rattle.rds_written.specs.Trips.{unplaced_body, unplaced_entry, body_part, entry_part}
 use Rattle.rds_written.proofs.Held.{asking_held}
 use Rattle.rds_written.proofs.Lists.{told, told_alike, told_parts}
-use Rattle.rds_written.proofs.Forms.{asking_again, answer_again, query_again}
+use Rattle.rds_written.proofs.Forms.{Bitmap, asking_again, answer_again, query_again}
 use Rattle.rds_written.proofs.Listed.{format_narrow, no_format, all_narrow, list_again}
 
 -- what a body read in f has of the body b and the entries l, whose parts lie in s
-pub record Back (f : List ℕ) (m : Managed) (s : List ℕ) (b : Body) (l : List Entry) : Type 0 where
-  pub sound : sound_body m.body ≡ true
-  pub alike : unplaced_body m.body ≡ unplaced_body b
-  pub alike_list : map unplaced_entry m.list ≡ map unplaced_entry l
-  pub same_part : body_part f m.body ≡ body_part s b
-  pub same_parts : map (entry_part f) m.list ≡ map (entry_part s) l
+pub record Back (f : List ℕ) (o : Option Managed) (s : List ℕ) (b : Body) (l : List Entry) : Type 0 where
+  pub managed : Managed
+  pub sound : o ≡ Some managed
+  pub alike : unplaced_body managed.body ≡ unplaced_body b
+  pub alike_list : map unplaced_entry managed.list ≡ map unplaced_entry l
+  pub same_part : body_part f managed.body ≡ body_part s b
+  pub same_parts : map (entry_part f) managed.list ≡ map (entry_part s) l
 
 -- a body without a list
-plain : (f s w : List ℕ) (c b : Body) → sound_body c ≡ true → unplaced_body c ≡ unplaced_body b → body_part f c ≡ body_part s b → Back f (no_list c) s b (list_said w false 0)
+plain : (f s w : List ℕ) (c b : Body) → unplaced_body c ≡ unplaced_body b → body_part f c ≡ body_part s b → Back f (Some (no_list c)) s b (list_said w false 0)
 unfolding no_list list_said entry_said tab
-plain f s w c b p q r = record { sound = p; alike = q; alike_list = refl; same_part = r; same_parts = refl }
+plain f s w c b q r = record { managed = no_list c; sound = refl; alike = q; alike_list = refl; same_part = r; same_parts = refl }
+
+same_bodies : (a b : Body) → Some a ≡ Some b → a ≡ b
+same_bodies a b p = cc
 
 -- the information of SET_PARAMETERS that is not too long is items
 items_held : (s : List ℕ) (start len : ℕ) → information_size s start len true ≤ 1520 → items_from len (part s start len) ≡ true
@@ -64,21 +71,12 @@ list_held s list a true n h = omega (arith, h)
 list_held s list a false n h = omega (arith, h)
 
 -- bitmaps that words say
-ports_even : (x : ℕ) (b : Bool) → ports_said x b ≡ ports_said x b / 2 * 2
+bitmap_said : (x : ℕ) (b : Bool) → Bitmap (ports_said x b)
 unfolding ports_said
-ports_even x true = even (x % 65536 / 2) where
+bitmap_said x true = (even (x % 65536 / 2), omega arith) where
   even : (y : ℕ) → y * 2 ≡ y * 2 / 2 * 2
   even y = omega arith
-ports_even x false = refl
-
-ports_narrow : (x : ℕ) (b : Bool) → ports_said x b < 65536
-unfolding ports_said
-ports_narrow x true = omega arith
-ports_narrow x false = omega arith
-
-no_ports : (x : ℕ) (b : Bool) → b ≡ false → ports_said x b ≡ 0
-unfolding ports_said
-no_ports x b e = rw e refl
+bitmap_said x false = tt
 
 module _ (H P : List ℕ) (end : ℕ) (h : length H ≡ end) where
   abbrev f : List ℕ
@@ -97,54 +95,55 @@ module _ (H P : List ℕ) (end : ℕ) (h : length H ≡ end) where
 
   module _ (s w : List ℕ) where
     -- information: all that follows the header
-    information_back : (start len : ℕ) → start + len ≤ length s → P ≡ part s start len → Back f (no_list (B.Information end (length f - end))) s (B.Information start len) (list_said w false 0)
+    information_back : (start len : ℕ) → start + len ≤ length s → P ≡ part s start len → Back f (Some (no_list (B.Information end (length f - end)))) s (B.Information start len) (list_said w false 0)
     unfolding unplaced_body body_part
     information_back start len inside e =
         let l : length f - end ≡ len = length_is ∙ ap length e ∙ length_part s start len inside in
         let same : part f end (length f - end) ≡ part s start len = ap (take (length f - end)) rest_is ∙ take_all (length f - end) P (omega (arith, length_is)) ∙ e in
-        plain f s w _ (B.Information start len) refl (ap (B.Information 0) l) same
+        plain f s w _ (B.Information start len) (ap (B.Information 0) l) same
 
-    empty_back : P ≡ [] → Back f (no_list (empty_of (length f) end)) s B.Empty (list_said w false 0)
+    empty_back : P ≡ [] → Back f (lone (empty_of (length f) end)) s B.Empty (list_said w false 0)
     unfolding empty_of body_part
     empty_back e =
         let n : length f ≡ end = omega (arith, length-append H P, ap length e, h) in
-        rw (eq-eqb _ _ n) (plain f s w B.Empty B.Empty refl refl refl)
+        rw (eq-eqb _ _ n) (plain f s w B.Empty B.Empty refl refl)
 
     -- the command Reserve or Release
-    asking_back : (response : Bool) (a p d start len x : ℕ) → a < 16 → p < 16 → d < 16 → x < 8 → (eqb a 5 ≡ false → x ≡ 0) → form_of a response ≡ F.Asking → Application s start len
+    asking_back : (response : Bool) (a p d start len x : ℕ) → a < 16 → p < 16 → d < 16 → x < 8 → (eqb a 5 ≡ false → x ≡ 0) → form_of a response ≡ Some F.Asking → Application s start len
         → P ≡ pieces_octets s (list_said w false 0) (asking_pieces a p d start len x) → Back f (managed_of P end response) s (B.Asking a p d start len x) (list_said w false 0)
     unfolding unplaced_body body_part asking_pieces pieces_octets
     asking_back response a p d start len x ha hp hd hx none form app e =
         let m = asking_again s (list_said w false 0) end a p d start len x ha hp hd app response hx none form in
         let here : part P 2 len ≡ part s start len = ap (λ (y : List ℕ). part y 2 len) e ∙ take_at (part s start len) _ len (length_part s start len app.ends) in
-        rw (ap (λ (y : List ℕ). managed_of y end response) e ∙ m) (plain f s w (B.Asking a p d (end + 2) len x) (B.Asking a p d start len x) refl refl (part_is 2 len ∙ here))
+        rw (ap (λ (y : List ℕ). managed_of y end response) e ∙ m) (plain f s w (B.Asking a p d (end + 2) len x) (B.Asking a p d start len x) refl (part_is 2 len ∙ here))
 
-    answer_back : (response : Bool) (a x t : ℕ) → a < 16 → x < 8 → (eqb a 5 ≡ false → x ≡ 0) → t < 4 → form_of a response ≡ F.Answer
+    answer_back : (response : Bool) (a x t : ℕ) → a < 16 → x < 8 → (eqb a 5 ≡ false → x ≡ 0) → t < 4 → form_of a response ≡ Some F.Answer
         → P ≡ pieces_octets s (list_said w false 0) (answer_pieces a x t) → Back f (managed_of P end response) s (B.Answer a x t) (list_said w false 0)
     unfolding body_part
     answer_back response a x t ha hx none ht form e =
-        rw (ap (λ (y : List ℕ). managed_of y end response) e ∙ answer_again s (list_said w false 0) end response a x t ha hx none ht form) (plain f s w (B.Answer a x t) (B.Answer a x t) refl refl refl)
+        rw (ap (λ (y : List ℕ). managed_of y end response) e ∙ answer_again s (list_said w false 0) end response a x t ha hx none ht form) (plain f s w (B.Answer a x t) (B.Answer a x t) refl refl)
 
-    query_back : (response : Bool) (a : ℕ) (some : Bool) (p y : ℕ) → a < 16 → p ≡ y * 2 → p < 65536 → (some ≡ false → p ≡ 0) → form_of a response ≡ F.Query
-        → P ≡ pieces_octets s (list_said w false 0) (query_pieces a some p) → Back f (managed_of P end response) s (B.Query a some p) (list_said w false 0)
+    query_back : (response : Bool) (a : ℕ) (p : Option ℕ) → a < 16 → Bitmap p → form_of a response ≡ Some F.Query
+        → P ≡ pieces_octets s (list_said w false 0) (query_pieces a p) → Back f (managed_of P end response) s (B.Query a p) (list_said w false 0)
     unfolding body_part
-    query_back response a some p y ha ep hp none form e =
-        rw (ap (λ (x : List ℕ). managed_of x end response) e ∙ query_again s (list_said w false 0) end response a some p y ha ep hp none form) (plain f s w (B.Query a some p) (B.Query a some p) refl refl refl)
+    query_back response a p ha even form e =
+        rw (ap (λ (x : List ℕ). managed_of x end response) e ∙ query_again s (list_said w false 0) end response a p ha even form) (plain f s w (B.Query a p) (B.Query a p) refl refl)
 
-    list_back : (response : Bool) (a : ℕ) (some : Bool) (p y n : ℕ) → a < 16 → p ≡ y * 2 → p < 65536 → (some ≡ false → p ≡ 0) → n ≤ 15 → form_of a response ≡ F.List
+    list_back : (response : Bool) (a : ℕ) (p : Option ℕ) (n : ℕ) → a < 16 → Bitmap p → n ≤ 15 → form_of a response ≡ Some F.List
         → entries_size s (ltb 5 a) (list_said w (ltb 5 a) n) n ≤ 1520
-        → P ≡ pieces_octets s (list_said w (ltb 5 a) n) (list_pieces a some p n) → Back f (managed_of P end response) s (B.List a some p n) (list_said w (ltb 5 a) n)
+        → P ≡ pieces_octets s (list_said w (ltb 5 a) n) (list_pieces a p n) → Back f (managed_of P end response) s (B.List a p n) (list_said w (ltb 5 a) n)
     unfolding body_part list_pieces pieces_octets
-    list_back response a some p y n ha ep hp none n15 form fits e =
+    list_back response a p n ha even n15 form fits e =
         let narrow = all_narrow w s (ltb 5 a) n n15 fits in
-        let m = list_again w s a n ha n15 end narrow response some p y ep hp none form in
+        let m = list_again w s a n ha n15 end narrow response p even form in
         let x : ℕ = n % 16 * 16 + a % 16 in
-        let T : List ℕ = take (2 * bit some) (p % 256 ∷ p / 256 % 256 ∷ []) in
+        let T : List ℕ = take (2 * bit (is_some p)) (bitmap_octets (unwrap_or p 0)) in
         let O : ℕ → List ℕ = λ k. entries_octets s (ltb 5 a) (take k (list_said w (ltb 5 a) n)) in
         let z : n % 16 ≡ n = omega (arith, n15) in
         let whole : H ++ P ≡ (H ++ (x ∷ [])) ++ (O n ++ T) = ap (λ (y : List ℕ). H ++ y) (e ∙ ap (λ (k : ℕ). x ∷ (O k ++ T)) z) ∙ sym (append_assoc H (x ∷ []) (O n ++ T)) in
         let l : length (H ++ (x ∷ [])) ≡ end + 1 = omega (arith, length-append H (x ∷ []), h) in
         rw (ap (λ (y : List ℕ). managed_of y end response) e ∙ m) (record {
+          managed = record { body = B.List a p n; list = told w (ltb 5 a) n n15 s (end + 1) };
           sound = refl;
           alike = refl;
           alike_list = told_alike w (ltb 5 a) n n15 s (end + 1);
@@ -156,7 +155,7 @@ module _ (H P : List ℕ) (end : ℕ) (h : length H ≡ end) where
     abbrev Fits : Bool → Body → Type 0
     Fits items b = (body_size s (entries_said w b) items b ≤ 1520) × (P ≡ pieces_octets s (entries_said w b) (pieces_of b))
 
-    manage_back : (response items : Bool) (form : Form) → form_of (word w 13 % 16) response ≡ form → Fits items (form_said w (word w 13 % 16) form)
+    manage_back : (response items : Bool) (form : Form) → form_of (word w 13 % 16) response ≡ Some form → Fits items (form_said w (word w 13 % 16) form)
         → Back f (managed_of P end response) s (form_said w (word w 13 % 16) form) (entries_said w (form_said w (word w 13 % 16) form))
     unfolding asking_said body_size pieces_of entries_said
     manage_back response items F.Asking form g =
@@ -166,23 +165,21 @@ module _ (H P : List ℕ) (end : ℕ) (h : length H ≡ end) where
         let a : ℕ = word w 13 % 16 in
         answer_back response a (format_said (word w 19) (eqb a 5)) (word w 14 % 4) (omega arith) (format_narrow (word w 19) (eqb a 5)) (no_format (word w 19) (eqb a 5)) (omega arith) form g.1
     manage_back response items F.Query form g =
-        let p : ℕ = ports_said (word w 21) (set? w 20) in
-        query_back response (word w 13 % 16) (set? w 20) p (p / 2) (omega arith) (ports_even (word w 21) (set? w 20)) (ports_narrow (word w 21) (set? w 20)) (no_ports (word w 21) (set? w 20)) form g.1
+        query_back response (word w 13 % 16) (ports_said (word w 21) (set? w 20)) (omega arith) (bitmap_said (word w 21) (set? w 20)) form g.1
     manage_back response items F.List form g =
         let a : ℕ = word w 13 % 16 in
         let n : ℕ = word w 22 % 16 in
-        let p : ℕ = ports_said (word w 21) (set? w 20) in
+        let p : Option ℕ = ports_said (word w 21) (set? w 20) in
         let z : n % 16 ≡ n = omega arith in
-        let fits : entries_size s (ltb 5 a) (list_said w (ltb 5 a) n) n ≤ 1520 = rw z at (list_held s (list_said w (ltb 5 a) n) a (set? w 20) n g.0) in
-        list_back response a (set? w 20) p (p / 2) n (omega arith) (ports_even (word w 21) (set? w 20)) (ports_narrow (word w 21) (set? w 20)) (no_ports (word w 21) (set? w 20)) (omega arith) form fits g.1
-    manage_back response items F.Wrong form g = absurd (omega (arith, g.0))
+        let fits : entries_size s (ltb 5 a) (list_said w (ltb 5 a) n) n ≤ 1520 = rw z at (list_held s (list_said w (ltb 5 a) n) a (is_some p) n g.0) in
+        list_back response a p n (omega arith) (bitmap_said (word w 21) (set? w 20)) (omega arith) form fits g.1
 
     -- the information that words say
-    told_back : (items : Bool) → Fits items (B.Information (word w 11) (word w 12)) → Back f (no_list (B.Information end (length f - end))) s (B.Information (word w 11) (word w 12)) (entries_said w (B.Information (word w 11) (word w 12)))
+    told_back : (items : Bool) → Fits items (B.Information (word w 11) (word w 12)) → Back f (Some (no_list (B.Information end (length f - end)))) s (B.Information (word w 11) (word w 12)) (entries_said w (B.Information (word w 11) (word w 12)))
     unfolding body_size pieces_of entries_said pieces_octets entries_octets
     told_back items g = information_back (word w 11) (word w 12) (information_fits s (word w 11) (word w 12) items g.0).0 (g.1 ∙ append-nil (part s (word w 11) (word w 12)))
 
-    items_back : Fits true (B.Information (word w 11) (word w 12)) → Back f (no_list (items_of f end)) s (B.Information (word w 11) (word w 12)) (entries_said w (B.Information (word w 11) (word w 12)))
+    items_back : Fits true (B.Information (word w 11) (word w 12)) → Back f (lone (items_of f end)) s (B.Information (word w 11) (word w 12)) (entries_said w (B.Information (word w 11) (word w 12)))
     unfolding body_size pieces_of entries_said pieces_octets entries_octets items_of
     items_back g =
         let e : P ≡ part s (word w 11) (word w 12) = g.1 ∙ append-nil (part s (word w 11) (word w 12)) in
@@ -190,39 +187,44 @@ module _ (H P : List ℕ) (end : ℕ) (h : length H ≡ end) where
         let t : items_from (length f - end) (drop end f) ≡ true = (λ i. items_from (l i) ((rest_is ∙ e) i)) ∙ items_held s (word w 11) (word w 12) g.0 in
         rw t (told_back true g)
 
-    none_back : (items : Bool) → Fits items B.Empty → Back f (no_list (empty_of (length f) end)) s B.Empty (entries_said w B.Empty)
+    none_back : (items : Bool) → Fits items B.Empty → Back f (lone (empty_of (length f) end)) s B.Empty (entries_said w B.Empty)
     unfolding pieces_of fixed_of entries_said pieces_octets entries_octets
     none_back items g = empty_back g.1
 
-    managed_back : (response items : Bool) → Fits items (manage_said w response) → Back f (manage_of f end false response) s (manage_said w response) (entries_said w (manage_said w response))
-    unfolding manage_said manage_of
-    managed_back response items g = rw rest_is (manage_back response items (form_of (word w 13 % 16) response) refl g)
+    -- a body that is said, where one with its sizes is read
+    given : (items : Bool) (o : Option Managed) (c b : Body) → Some c ≡ Some b → (Fits items c → Back f o s c (entries_said w c)) → Fits items b → Back f o s b (entries_said w b)
+    given items o c b e = subst (λ (b : Body). (Fits items c → Back f o s c (entries_said w c)) → Fits items b → Back f o s b (entries_said w b)) (same_bodies c b e) (λ h. h)
 
-    wrong-back {ℓ} : {A : Type ℓ} (items : Bool) → Fits items B.Wrong → A
-    unfolding body_size
-    wrong-back items g = absurd (omega (arith, g.0))
+    managed_back : (response items : Bool) (b : Body) → manage_said w response ≡ Some b → Fits items b → Back f (manage_of f end false response) s b (entries_said w b)
+    unfolding manage_said manage_of
+    managed_back response items b e g = rw rest_is (go (form_of (word w 13 % 16) response) refl e) where
+      go : (form : Option Form) → form_of (word w 13 % 16) response ≡ form → option_map (form_said w (word w 13 % 16)) form ≡ Some b → Back f (managed_of P end response) s b (entries_said w b)
+      go None q e = absurd (none-some b e)
+      go (Some form) q e = given items (managed_of P end response) (form_said w (word w 13 % 16) form) b e (manage_back response items form q) g
 
     -- the body of a U frame that words say
-    u_back : (m : ℕ) (response ads : Bool) → Fits (eqb m 11) (u_said w m response ads) → Back f (u_body f end ads m response) s (u_said w m response ads) (entries_said w (u_said w m response ads))
+    u_back : (m : ℕ) (response ads : Bool) (b : Body) → u_said w m response ads ≡ Some b → Fits (eqb m 11) b → Back f (u_body f end ads m response) s b (entries_said w b)
     unfolding u_said u_body
-    u_back m response ads = go (eqb m 1) (eqb m 4) (eqb m 10) (eqb m 11) ads where
-      body : (b1 b4 b10 ads : Bool) → Body
-      body b1 b4 b10 ads = pick b1 B.Empty (pick b4 B.Empty (pick b10 (pick ads B.Wrong (manage_said w response)) (B.Information (word w 11) (word w 12))))
+    u_back m response ads b = go (eqb m 1) (eqb m 4) (eqb m 10) (eqb m 11) ads where
+      information : Body
+      information = B.Information (word w 11) (word w 12)
 
-      go : (b1 b4 b10 b11 ads : Bool) → Fits b11 (body b1 b4 b10 ads)
-          → Back f (pick b1 (no_list (empty_of (length f) end)) (pick b4 (no_list (empty_of (length f) end)) (pick b10 (manage_of f end ads response) (pick b11 (no_list (items_of f end)) (no_list (B.Information end (length f - end))))))) s (body b1 b4 b10 ads) (entries_said w (body b1 b4 b10 ads))
-      go true b4 b10 b11 ads g = none_back b11 g
-      go false true b10 b11 ads g = none_back b11 g
-      go false false true b11 true g = wrong-back b11 g
-      go false false true b11 false g = managed_back response b11 g
-      go false false false true ads g = items_back g
-      go false false false false ads g = told_back false g
+      body : (b1 b4 b10 ads : Bool) → Option Body
+      body b1 b4 b10 ads = pick b1 (Some B.Empty) (pick b4 (Some B.Empty) (pick b10 (pick ads None (manage_said w response)) (Some information)))
+
+      go : (b1 b4 b10 b11 ads : Bool) → body b1 b4 b10 ads ≡ Some b → Fits b11 b
+          → Back f (pick b1 (lone (empty_of (length f) end)) (pick b4 (lone (empty_of (length f) end)) (pick b10 (manage_of f end ads response) (pick b11 (lone (items_of f end)) (Some (no_list (B.Information end (length f - end)))))))) s b (entries_said w b)
+      go true b4 b10 b11 ads e = given b11 (lone (empty_of (length f) end)) B.Empty b e (none_back b11)
+      go false true b10 b11 ads e = given b11 (lone (empty_of (length f) end)) B.Empty b e (none_back b11)
+      go false false true b11 true e = absurd (none-some b e)
+      go false false true b11 false e = managed_back response b11 b e
+      go false false false true ads e = given true (lone (items_of f end)) information b e items_back
+      go false false false false ads e = given false (Some (no_list (B.Information end (length f - end)))) information b e (told_back false)
 
     -- the body that words say, by the kind
-    pub body_back : (ads : Bool) (k : Kind) → Fits (is_items k) (body_said w ads k) → Back f (body_by f end ads k) s (body_said w ads k) (entries_said w (body_said w ads k))
+    pub body_back : (ads : Bool) (k : Kind) (b : Body) → body_said w ads k ≡ Some b → Fits (is_items k) b → Back f (body_by f end ads k) s b (entries_said w b)
     unfolding body_said body_by is_items
-    body_back ads (K.I a ns nr r) g = told_back false g
-    body_back ads (K.S a nr r) g = none_back false g
-    body_back ads (K.Ui nu) g = told_back false g
-    body_back ads (K.U m response) g = u_back m response ads g
-    body_back ads K.Wrong g = wrong-back false g
+    body_back ads (K.I a ns nr r) b e = given false (Some (no_list (B.Information end (length f - end)))) (B.Information (word w 11) (word w 12)) b e (told_back false)
+    body_back ads (K.S a nr r) b e = given false (lone (empty_of (length f) end)) B.Empty b e (none_back false)
+    body_back ads (K.Ui nu) b e = given false (Some (no_list (B.Information end (length f - end)))) (B.Information (word w 11) (word w 12)) b e (told_back false)
+    body_back ads (K.U m response) b e = u_back m response ads b e

@@ -3,6 +3,7 @@ use Prim.Native.Nat.{ℕ, suc, ◌+◌, ◌*◌, ◌/◌, ◌%◌, ◌≤◌, �
 use native.Mathlib.Omega.{arith}
 use mathlib.Core.Path.{◌≡◌, refl, sym, ap, ◌∙◌}
 use mathlib.Core.List.{List, [], ◌∷◌, ◌++◌}
+use Rattle.std.specs.Prelude.{Some}
 use mathlib.Core.Bool.{Bool, true, false}
 use lib.ListN.{length, take}
 use lib.Dec.{eqb}
@@ -12,7 +13,7 @@ use Rattle.base_lists.proofs.StoresAndParts.{bit_le}
 use Rattle.rds_frame.specs.declared.Kind.{Kind}
 use Rattle.rds_frame.specs.declared.Kind.TheVariants as K
 use Rattle.rds_frame.specs.declared.Head.{Head}
-use Rattle.rds_frame.specs.Frame.{flag, responds, u_kind, kind_of, ports_after, head_of}
+use Rattle.rds_frame.specs.Frame.{flag, responds, u_kind, kind_of, ports_after, headed, head_of}
 use Rattle.rds_pieces.specs.Octets.{ports_octet, kind_octets, kind_length}
 use Rattle.rds_encoding.specs.Encoding.{head_octets}
 use Rattle.rds_written.proofs.Narrow.{NarrowKind, NarrowHead}
@@ -66,26 +67,26 @@ head k ads s d end = record { kind = k; ads = ads; source = s; destination = d; 
 
 -- the ports octet after one octet, and after two
 module _ (k : Kind) (s d : ℕ) (t : List ℕ) where
-  ports_one : (ads : Bool) (b : ℕ) → NarrowHead (head k ads s d 0) → ports_after (b ∷ rest ads s d t) k ads 1 ≡ head k ads s d (1 + bit ads)
+  ports_one : (ads : Bool) (b : ℕ) → NarrowHead (head k ads s d 0) → ports_after (b ∷ rest ads s d t) k ads 1 ≡ Some (head k ads s d (1 + bit ads))
   unfolding ports_after
   ports_one true b n =
       let long : 1 < suc (suc (length t)) = omega arith in
       let from : ports_octet s d / 16 ≡ s = omega (arith, n.source_narrow, n.destination_narrow) in
       let to : ports_octet s d % 16 ≡ d = omega (arith, n.source_narrow, n.destination_narrow) in
-      simp (lt-leb _ _ long) (λ i. head k true (from i) (to i) 2)
-  ports_one false b n = λ i. head k false (sym (n.no_ports refl).0 i) (sym (n.no_ports refl).1 i) 1
+      simp (lt-leb _ _ long) (λ i. Some (head k true (from i) (to i) 2))
+  ports_one false b n = λ i. Some (head k false (sym (n.no_ports refl).0 i) (sym (n.no_ports refl).1 i) 1)
 
-  ports_two : (ads : Bool) (b c : ℕ) → NarrowHead (head k ads s d 0) → ports_after (b ∷ c ∷ rest ads s d t) k ads 2 ≡ head k ads s d (2 + bit ads)
+  ports_two : (ads : Bool) (b c : ℕ) → NarrowHead (head k ads s d 0) → ports_after (b ∷ c ∷ rest ads s d t) k ads 2 ≡ Some (head k ads s d (2 + bit ads))
   unfolding ports_after
   ports_two true b c n =
       let long : 2 < suc (suc (suc (length t))) = omega arith in
       let from : ports_octet s d / 16 ≡ s = omega (arith, n.source_narrow, n.destination_narrow) in
       let to : ports_octet s d % 16 ≡ d = omega (arith, n.source_narrow, n.destination_narrow) in
-      simp (lt-leb _ _ long) (λ i. head k true (from i) (to i) 3)
-  ports_two false b c n = λ i. head k false (sym (n.no_ports refl).0 i) (sym (n.no_ports refl).1 i) 2
+      simp (lt-leb _ _ long) (λ i. Some (head k true (from i) (to i) 3))
+  ports_two false b c n = λ i. Some (head k false (sym (n.no_ports refl).0 i) (sym (n.no_ports refl).1 i) 2)
 
 -- a frame of two octets or more that is no UI frame
-pub two_octets : (b c : ℕ) (r : List ℕ) (network : Bool) → b < 128 → (b / 32 ≡ 2 → ⊥) → head_of (b ∷ c ∷ r) network ≡ ports_after (b ∷ c ∷ r) (kind_of b c network) (flag 8 b) 2
+pub two_octets : (b c : ℕ) (r : List ℕ) (network : Bool) → b < 128 → (b / 32 ≡ 2 → ⊥) → head_of (b ∷ c ∷ r) network ≡ headed (b ∷ c ∷ r) (flag 8 b) (kind_of b c network)
 unfolding head_of
 two_octets b c r network low ui =
     let some : suc (suc (length r)) ≡ 0 → ⊥ = λ h. omega arith in
@@ -99,7 +100,7 @@ one_octet b r network low ui =
     simp (ne_eqb _ _ some, lt-leb _ _ low, eq-eqb _ _ ui)
 
 module _ (network ads : Bool) (s d : ℕ) (t : List ℕ) where
-  i_kind_holds : (a : Bool) (ns nr r : ℕ) → ns < 8 → nr < 8 → r < 8 → kind_of (bit a * 32 + bit ads * 8 + ns % 8) (nr % 8 * 32 + r % 8 * 4 + 3) network ≡ K.I a ns nr r
+  i_kind_holds : (a : Bool) (ns nr r : ℕ) → ns < 8 → nr < 8 → r < 8 → kind_of (bit a * 32 + bit ads * 8 + ns % 8) (nr % 8 * 32 + r % 8 * 4 + 3) network ≡ Some (K.I a ns nr r)
   unfolding kind_of
   i_kind_holds a ns nr r x y z =
       let low : bit a * 32 + bit ads * 8 + ns % 8 < 64 = omega (arith, bit_le a, bit_le ads) in
@@ -108,9 +109,9 @@ module _ (network ads : Bool) (s d : ℕ) (t : List ℕ) where
       let fs : (bit a * 32 + bit ads * 8 + ns % 8) % 8 ≡ ns = omega (arith, x) in
       let fr : (nr % 8 * 32 + r % 8 * 4 + 3) / 32 ≡ nr = nr_again nr r y z in
       let ff : (nr % 8 * 32 + r % 8 * 4 + 3) / 4 % 8 ≡ r = r_again nr r y z in
-      simp (lt-ltb _ _ low, eq-eqb _ _ sack) (λ i. K.I (fa i) (fs i) (fr i) (ff i))
+      simp (lt-ltb _ _ low, eq-eqb _ _ sack) (λ i. Some (K.I (fa i) (fs i) (fr i) (ff i)))
 
-  s_kind_holds : (a : Bool) (nr r : ℕ) → nr < 8 → r < 8 → kind_of (96 + bit ads * 8 + bit a * 4) (nr % 8 * 32 + r % 8 * 4 + 3) network ≡ K.S a nr r
+  s_kind_holds : (a : Bool) (nr r : ℕ) → nr < 8 → r < 8 → kind_of (96 + bit ads * 8 + bit a * 4) (nr % 8 * 32 + r % 8 * 4 + 3) network ≡ Some (K.S a nr r)
   unfolding kind_of
   s_kind_holds a nr r y z =
       let high : 64 ≤ 96 + bit ads * 8 + bit a * 4 = omega arith in
@@ -119,9 +120,9 @@ module _ (network ads : Bool) (s d : ℕ) (t : List ℕ) where
       let fa : flag 4 (96 + bit ads * 8 + bit a * 4) ≡ a = flag_is 4 (96 + bit ads * 8 + bit a * 4) a (omega (arith, bit_le a, bit_le ads)) in
       let fr : (nr % 8 * 32 + r % 8 * 4 + 3) / 32 ≡ nr = nr_again nr r y z in
       let ff : (nr % 8 * 32 + r % 8 * 4 + 3) / 4 % 8 ≡ r = r_again nr r y z in
-      simp (le-ltb _ _ high, eq-eqb _ _ bit5, eq-eqb _ _ sack) (λ i. K.S (fa i) (fr i) (ff i))
+      simp (le-ltb _ _ high, eq-eqb _ _ bit5, eq-eqb _ _ sack) (λ i. Some (K.S (fa i) (fr i) (ff i)))
 
-  u_kind_holds : (m : ℕ) (response : Bool) → m < 16 → u_kind m response ≡ K.U m response → kind_of (112 + bit ads * 8 + bit (responds response network) * 4) (m % 16) network ≡ K.U m response
+  u_kind_holds : (m : ℕ) (response : Bool) → m < 16 → u_kind m response ≡ Some (K.U m response) → kind_of (112 + bit ads * 8 + bit (responds response network) * 4) (m % 16) network ≡ Some (K.U m response)
   unfolding kind_of
   u_kind_holds m response y e =
       let cr = responds response network in
@@ -131,14 +132,14 @@ module _ (network ads : Bool) (s d : ℕ) (t : List ℕ) where
       let fc : flag 4 (112 + bit ads * 8 + bit cr * 4) ≡ cr = flag_is 4 (112 + bit ads * 8 + bit cr * 4) cr (omega (arith, bit_le cr, bit_le ads)) in
       simp (le-ltb _ _ high, ne_eqb _ _ bit5) (λ i. u_kind (fm i) (responds (fc i) network)) ∙ ap (u_kind m) (responds_twice response network) ∙ e
 
-  two_again : (b c : ℕ) (k : Kind) → b < 128 → (b / 32 ≡ 2 → ⊥) → kind_of b c network ≡ k → flag 8 b ≡ ads → NarrowHead (head k ads s d 0) → head_of (b ∷ c ∷ rest ads s d t) network ≡ head k ads s d (2 + bit ads)
-  two_again b c k low ui e f p = two_octets b c (rest ads s d t) network low ui ∙ (λ i. ports_after (b ∷ c ∷ rest ads s d t) (e i) (f i) 2) ∙ ports_two k s d t ads b c p
+  two_again : (b c : ℕ) (k : Kind) → b < 128 → (b / 32 ≡ 2 → ⊥) → kind_of b c network ≡ Some k → flag 8 b ≡ ads → NarrowHead (head k ads s d 0) → head_of (b ∷ c ∷ rest ads s d t) network ≡ Some (head k ads s d (2 + bit ads))
+  two_again b c k low ui e f p = two_octets b c (rest ads s d t) network low ui ∙ (λ i. headed (b ∷ c ∷ rest ads s d t) (f i) (e i)) ∙ ports_two k s d t ads b c p
 
-  one_again : (b nu : ℕ) → b < 128 → b / 32 ≡ 2 → b % 8 ≡ nu → flag 8 b ≡ ads → NarrowHead (head (K.Ui nu) ads s d 0) → head_of (b ∷ rest ads s d t) network ≡ head (K.Ui nu) ads s d (1 + bit ads)
+  one_again : (b nu : ℕ) → b < 128 → b / 32 ≡ 2 → b % 8 ≡ nu → flag 8 b ≡ ads → NarrowHead (head (K.Ui nu) ads s d 0) → head_of (b ∷ rest ads s d t) network ≡ Some (head (K.Ui nu) ads s d (1 + bit ads))
   one_again b nu low ui e f p = one_octet b (rest ads s d t) network low ui ∙ (λ i. ports_after (b ∷ rest ads s d t) (K.Ui (e i)) (f i) 1) ∙ ports_one (K.Ui nu) s d t ads b p
 
   -- the header that is written, before t
-  pub head_again : (k : Kind) → NarrowKind k → NarrowHead (head k ads s d 0) → head_of (head_octets (head k ads s d 0) network ++ t) network ≡ head k ads s d (kind_length k + bit ads)
+  pub head_again : (k : Kind) → NarrowKind k → NarrowHead (head k ads s d 0) → head_of (head_octets (head k ads s d 0) network ++ t) network ≡ Some (head k ads s d (kind_length k + bit ads))
   unfolding head_octets kind_octets kind_length NarrowKind
   head_again (K.I a ns nr r) n p =
       let low : bit a * 32 + bit ads * 8 + ns % 8 < 128 = omega (arith, bit_le a, bit_le ads) in
@@ -162,4 +163,3 @@ module _ (network ads : Bool) (s d : ℕ) (t : List ℕ) where
       let ui : (112 + bit ads * 8 + bit cr * 4) / 32 ≡ 2 → ⊥ = λ h. omega (arith, bit_le cr, bit_le ads) in
       let f : flag 8 (112 + bit ads * 8 + bit cr * 4) ≡ ads = flag_is 8 (112 + bit ads * 8 + bit cr * 4) ads (omega (arith, bit_le cr, bit_le ads)) in
       two_again _ _ (K.U m response) low ui (u_kind_holds m response n.0 n.1) f p
-  head_again K.Wrong n p = absurd n

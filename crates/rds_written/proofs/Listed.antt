@@ -1,8 +1,10 @@
 -- A list, as it is written, reads as itself. Assumes nothing.
 use Prim.Native.Nat.{ℕ, suc, ◌+◌, ◌-◌, ◌*◌, ◌/◌, ◌%◌, ◌≤◌, ◌<◌}
 use native.Mathlib.Omega.{arith}
-use mathlib.Core.Path.{◌≡◌, refl, sym, ap, ◌∙◌}
+use mathlib.Core.Path.{◌≡◌, refl, ap, ◌∙◌}
 use mathlib.Core.List.{List, ◌∷◌, ◌++◌}
+use Rattle.std.specs.Prelude.{Option, Some, None, is_some}
+use Rattle.std.specs.Option.{unwrap_or}
 use mathlib.Core.Bool.{Bool, true, false}
 use lib.ListN.{length, get_or, take, drop, replicate}
 use lib.Seq.{drop_at}
@@ -25,7 +27,7 @@ use Rattle.rds_said.specs.Said.{word, format_said, entry_said, list_said}
 use Rattle.rds_written.proofs.Narrow.{NarrowEntry}
 use Rattle.rds_written.proofs.Walk.{AllNarrow, walked, walk_again}
 use Rattle.rds_written.proofs.Lists.{told, length_first, said_at}
-use Rattle.rds_written.proofs.Forms.{by_form, bitmap_again}
+use Rattle.rds_written.proofs.Forms.{Bitmap, by_form, bitmap_again}
 
 -- an entry no longer than an information field has an Application ID
 held : (s : List ℕ) (f : Bool) (e : Entry) → entry_size s f e ≤ 1520 → Application s e.start e.len
@@ -82,35 +84,36 @@ module _ (w s : List ℕ) (a n : ℕ) (ha : a < 16) (n15 : n ≤ 15) (at : ℕ) 
   x = n % 16 * 16 + a % 16
 
   abbrev W : Entries
-  W = record { whole = true; end = at + 1 + length O; list = told w (ltb 5 a) n n15 s (at + 1) }
+  W = record { end = at + 1 + length O; list = told w (ltb 5 a) n n15 s (at + 1) }
 
   number : x / 16 ≡ n
   number = omega (arith, n15, ha)
 
-  walk_found : (T : List ℕ) → walk_from (x / 16) 0 (ltb 5 a) (at + 1) (O ++ T) (replicate 15 no_entry) ≡ W
+  walk_found : (T : List ℕ) → walk_from (x / 16) 0 (ltb 5 a) (at + 1) (O ++ T) (replicate 15 no_entry) ≡ Some W
   unfolding walked
   walk_found T =
       let l : x / 16 ≡ length E = omega (arith, number, length_first w (ltb 5 a) n n15) in
       ap (λ (k : ℕ). walk_from k 0 (ltb 5 a) (at + 1) (O ++ T) (replicate 15 no_entry)) l ∙ walk_again s (ltb 5 a) E narrow T 0 (at + 1) (replicate 15 no_entry)
 
-  list_found : (T : List ℕ) → list_of (x ∷ (O ++ T)) at a ≡ list_by a n W (optional_of T)
+  list_found : (T : List ℕ) → list_of (x ∷ (O ++ T)) at a ≡ list_by a n W.list (optional_of T)
   unfolding list_of
   list_found T =
       let e : at + 1 + length O - at ≡ suc (length O) = omega arith in
       let d : drop (at + 1 + length O - at) (x ∷ (O ++ T)) ≡ T = ap (λ (k : ℕ). drop k (x ∷ (O ++ T))) e ∙ drop_at O T (length O) refl in
-      ap (list_after (x ∷ (O ++ T)) at a) (walk_found T) ∙ (λ i. list_by a (number i) W (optional_of (d i)))
+      ap (list_after (x ∷ (O ++ T)) at a) (walk_found T) ∙ (λ i. list_by a (number i) W.list (optional_of (d i)))
 
   -- the list that is written
-  pub list_again : (response some : Bool) (p y : ℕ) → p ≡ y * 2 → p < 65536 → (some ≡ false → p ≡ 0) → form_of a response ≡ F.List
-      → managed_of (pieces_octets s (list_said w (ltb 5 a) n) (list_pieces a some p n)) at response ≡ record { body = B.List a some p n; list = told w (ltb 5 a) n n15 s (at + 1) }
+  pub list_again : (response : Bool) (p : Option ℕ) → Bitmap p → form_of a response ≡ Some F.List
+      → managed_of (pieces_octets s (list_said w (ltb 5 a) n) (list_pieces a p n)) at response ≡ Some (record { body = B.List a p n; list = told w (ltb 5 a) n n15 s (at + 1) })
   unfolding list_pieces pieces_octets optional_of
-  list_again response some p y e hp none form =
+  list_again response p even form =
       let z : n % 16 ≡ n = omega (arith, n15) in
       let act : x % 16 ≡ a = omega (arith, ha) in
-      ap (λ (k : ℕ). managed_of (x ∷ (entries_octets s (ltb 5 a) (take k (list_said w (ltb 5 a) n)) ++ take (2 * bit some) (bitmap_octets p))) at response) z
-      ∙ by_form (x ∷ (O ++ take (2 * bit some) (bitmap_octets p))) at response a F.List (λ h. omega arith) act form
-      ∙ list_found (take (2 * bit some) (bitmap_octets p))
-      ∙ last some none where
-        last : (b : Bool) → (b ≡ false → p ≡ 0) → list_by a n W (optional_of (take (2 * bit b) (bitmap_octets p))) ≡ record { body = B.List a b p n; list = told w (ltb 5 a) n n15 s (at + 1) }
-        last true none = λ i. record { body = B.List a true (bitmap_again p y e hp i) n; list = told w (ltb 5 a) n n15 s (at + 1) }
-        last false none = λ i. record { body = B.List a false (sym (none refl) i) n; list = told w (ltb 5 a) n n15 s (at + 1) }
+      let T : List ℕ = take (2 * bit (is_some p)) (bitmap_octets (unwrap_or p 0)) in
+      ap (λ (k : ℕ). managed_of (x ∷ (entries_octets s (ltb 5 a) (take k (list_said w (ltb 5 a) n)) ++ T)) at response) z
+      ∙ by_form (x ∷ (O ++ T)) at response a F.List (λ h. omega arith) act form
+      ∙ list_found T
+      ∙ last p even where
+        last : (p : Option ℕ) → Bitmap p → list_by a n W.list (optional_of (take (2 * bit (is_some p)) (bitmap_octets (unwrap_or p 0)))) ≡ Some (record { body = B.List a p n; list = told w (ltb 5 a) n n15 s (at + 1) })
+        last (Some p) even = λ i. Some (record { body = B.List a (Some (bitmap_again p (p / 2) even.0 even.1 i)) n; list = told w (ltb 5 a) n n15 s (at + 1) })
+        last None even = refl

@@ -2,6 +2,7 @@
 use Prim.Native.Nat.{ℕ, ◌<◌}
 use mathlib.Core.Path.{◌≡◌}
 use mathlib.Core.List.{List}
+use Rattle.std.specs.Prelude.{Some}
 use mathlib.Core.Bool.{Bool, false}
 use Rattle.rds_frame.specs.declared.Kind.{Kind}
 use Rattle.rds_frame.specs.declared.Kind.TheVariants as K
@@ -15,8 +16,7 @@ unfoldable pub NarrowKind : Kind → Type 0
 NarrowKind (K.I a ns nr r) = (ns < 8) × (nr < 8) × (r < 8)
 NarrowKind (K.S a nr r) = (nr < 8) × (r < 8)
 NarrowKind (K.Ui nu) = nu < 8
-NarrowKind (K.U m response) = (m < 16) × (u_kind m response ≡ K.U m response)
-NarrowKind K.Wrong = ⊥
+NarrowKind (K.U m response) = (m < 16) × (u_kind m response ≡ Some (K.U m response))
 
 -- the ports of a header are as narrow as their places, and 0 where ADS is 0
 pub record NarrowHead (h : Head) : Type 0 where

@@ -3,6 +3,7 @@ use Prim.Native.Nat.{ℕ, suc, ◌+◌, ◌%◌, ◌<◌}
 use native.Mathlib.Omega.{arith}
 use mathlib.Core.Path.{◌≡◌, refl, ap, ◌∙◌}
 use mathlib.Core.List.{List, [], ◌∷◌, ◌++◌, append_assoc}
+use Rattle.std.specs.Prelude.{Some}
 use mathlib.Core.Bool.{Bool, true, false}
 use lib.ListN.{length, get_or, take, drop, set, length-append}
 use lib.Seq.{sets, drop_at}
@@ -39,13 +40,13 @@ module _ (s : List ℕ) (f : Bool) where
 
   -- the walk over k entries and more
   unfoldable pub walked : ℕ → ℕ → List Entry → List Entry → Entries
-  walked k at l read = record { whole = true; end = at + length (entries_octets s f l); list = sets read k (movedFrom at l) }
+  walked k at l read = record { end = at + length (entries_octets s f l); list = sets read k (movedFrom at l) }
 
-  pub walk_again : (l : List Entry) → AllNarrow l → (rest : List ℕ) (k at : ℕ) (read : List Entry) → walk_from (length l) k f at (entries_octets s f l ++ rest) read ≡ walked k at l read
+  pub walk_again : (l : List Entry) → AllNarrow l → (rest : List ℕ) (k at : ℕ) (read : List Entry) → walk_from (length l) k f at (entries_octets s f l ++ rest) read ≡ Some (walked k at l read)
   unfolding walk_from walked entries_octets movedFrom
   walk_again [] n rest k at read =
       let z : at ≡ at + 0 = omega arith in
-      λ i. record { whole = true; end = z i; list = read }
+      λ i. Some (record { end = z i; list = read })
   walk_again (e ∷ l) n rest k at read =
       let m : NarrowEntry s f e = n 0 (omega arith) in
       let size : ℕ = 1 + e.len + bit f in
@@ -55,4 +56,4 @@ module _ (s : List ℕ) (f : Bool) where
       let z : at + size + length (entries_octets s f l) ≡ at + length (entry_octets s f e ++ entries_octets s f l) = omega (arith, length-append (entry_octets s f e) (entries_octets s f l), le) in
       let next : k + 1 ≡ suc k = omega arith in
       ap (λ (x : List ℕ). after_entry (λ j. walk_from (length l) j f) k at x read (entry_at x at f)) split
-      ∙ rw (entry_again s e at (entries_octets s f l ++ rest) f m, d) (walk_again l (λ i h. n (suc i) (omega (arith, h))) rest (k + 1) (at + size) (set read k (moved s at e)) ∙ (λ i. record { whole = true; end = z i; list = sets (set read k (moved s at e)) (next i) (movedFrom (at + size) l) }))
+      ∙ rw (entry_again s e at (entries_octets s f l ++ rest) f m, d) (walk_again l (λ i h. n (suc i) (omega (arith, h))) rest (k + 1) (at + size) (set read k (moved s at e)) ∙ (λ i. Some (record { end = z i; list = sets (set read k (moved s at e)) (next i) (movedFrom (at + size) l) })))

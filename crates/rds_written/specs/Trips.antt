@@ -1,12 +1,11 @@
 -- A frame beside the frame that was written from it (RDS.md, section 9, promise 3).
-use Rattle.std.specs.Prelude.{ℕ, ◌≡◌, List, [], map, true}
+use Rattle.std.specs.Prelude.{ℕ, ◌≡◌, List, [], map, Option, Some}
 use Rattle.base_lists.specs.Seq.{part}
 use Rattle.rds_frame.specs.declared.Head.{Head}
 use Rattle.rds_entries.specs.declared.Entry.{Entry}
 use Rattle.rds_body.specs.declared.Body.{Body}
 use Rattle.rds_body.specs.declared.Body.TheVariants as B
 use Rattle.rds_reading.specs.declared.Frame.{Frame}
-use Rattle.rds_reading.specs.Read.{sound_body}
 
 -- "but for starts": where a header ends, and where a part starts, is told as 0
 abbrev pub unplaced_head : Head → Head
@@ -17,9 +16,8 @@ unplaced_body B.Empty = B.Empty
 unplaced_body (B.Information a l) = B.Information 0 l
 unplaced_body (B.Asking n s d a l f) = B.Asking n s d 0 l f
 unplaced_body (B.Answer n f t) = B.Answer n f t
-unplaced_body (B.Query n o p) = B.Query n o p
-unplaced_body (B.List n o p c) = B.List n o p c
-unplaced_body B.Wrong = B.Wrong
+unplaced_body (B.Query n p) = B.Query n p
+unplaced_body (B.List n p c) = B.List n p c
 
 abbrev pub unplaced_entry : Entry → Entry
 unplaced_entry e = record { source = e.source; destination = e.destination; start = 0; len = e.len; format = e.format }
@@ -33,16 +31,16 @@ body_part s B.Empty = []
 body_part s (B.Information a l) = part s a l
 body_part s (B.Asking n p d a l f) = part s a l
 body_part s (B.Answer n f t) = []
-body_part s (B.Query n o p) = []
-body_part s (B.List n o p c) = []
-body_part s B.Wrong = []
+body_part s (B.Query n p) = []
+body_part s (B.List n p c) = []
 
 abbrev pub entry_part : List ℕ → Entry → List ℕ
 entry_part s e = part s e.start e.len
 
--- promise 3: the frame g, read in the octets f, is sound; it has "the same words but for starts" as the frame h, "the same octets in each part" as h has in s
-pub record Reread (f : List ℕ) (g : Frame) (s : List ℕ) (h : Frame) : Type 0 where
-  pub sound : sound_body g.body ≡ true
-  pub alike : unplaced g ≡ unplaced h
-  pub same_part : body_part f g.body ≡ body_part s h.body
-  pub same_parts : map (entry_part f) g.list ≡ map (entry_part s) h.list
+-- promise 3: what is read in the octets f is a frame; it has "the same words but for starts" as the frame h, "the same octets in each part" as h has in s
+pub record Reread (f : List ℕ) (o : Option Frame) (s : List ℕ) (h : Frame) : Type 0 where
+  pub frame : Frame
+  pub sound : o ≡ Some frame
+  pub alike : unplaced frame ≡ unplaced h
+  pub same_part : body_part f frame.body ≡ body_part s h.body
+  pub same_parts : map (entry_part f) frame.list ≡ map (entry_part s) h.list

@@ -10,13 +10,13 @@ pub loop-p-preserved : goal.loop-p-preserved
 loop-p-preserved c =
     let l = c.loop-p in
     let a = c.args in
-    (search rules, every_more (place_ok a.book.now) l.p (sym c.place_ok.ensures ∙ c.if-place_ok.true) l.invariant.1)
+    (search rules, every_more (place_ok a.book.now) l.p (sym c.place_ok.ensures ∙ c.if-not-place_ok.false) l.invariant.1)
 
-pub returns-else-place_ok : goal.returns-else-place_ok
-returns-else-place_ok c =
+pub returns-then-not-place_ok : goal.returns-then-not-place_ok
+returns-then-not-place_ok c =
     let l = c.loop-p in
     let a = c.args in
-    sym (every_fails (place_ok a.book.now) 16 l.p c.loop-p-test.true (sym c.place_ok.ensures ∙ c.if-place_ok.false))
+    sym (every_fails (place_ok a.book.now) 16 l.p c.loop-p-test.true (sym c.place_ok.ensures ∙ c.if-not-place_ok.true))
 
 pub returns : goal.returns
 returns c =

@@ -1,5 +1,5 @@
 -- One turn adds the size of one entry more.
-use Rattle.std.proofs.Common.{◌≡◌, ℕ, refl, sym, ap, ◌∙◌, arith, get_or}
+use Rattle.std.proofs.Common.{ℕ, refl, sym, arith, get_or}
 use Rattle.base_lists.specs.Seq.{total}
 use Rattle.base_lists.proofs.StoresAndParts.{total_more}
 use Rattle.rds_entries.specs.Entries.{no_entry}
@@ -15,8 +15,3 @@ unfolding entries_size
 loop-k-preserved c =
     let f : ℕ → ℕ = λ k. entry_size c.args.bytes.now c.args.formats (get_or c.args.list k no_entry) in
     (omega arith, rw (c.entry_size-sum.ensures.0, c.loop-k.invariant.1) (sym (total_more f c.loop-k.k)), omega arith)
-
-pub returns : goal.returns
-returns c =
-    let all : c.loop-k.k ≡ c.args.count = omega arith in
-    (c.loop-k.invariant.1 ∙ ap (entries_size c.args.bytes.now c.args.formats c.args.list) all, omega arith)

@@ -13,5 +13,5 @@ loop-k-init c = (omega arith, sym (put_nil c.args.fields.now 24))
 pub loop-k-preserved : goal.loop-k-preserved
 loop-k-preserved c = (
   omega arith,
-  c.store_words.ensures ∙ rw (c.entry_words-five.ensures, c.loop-k.invariant.1) (one_more c.args.fields.now c.args.list c.loop-k.k no_entry (omega arith)),
+  c.store.ensures ∙ rw (c.entry_words.ensures, c.loop-k.invariant.1) (one_more c.args.fields.now c.args.list c.loop-k.k no_entry (omega arith)),
 )

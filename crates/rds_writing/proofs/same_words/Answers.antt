@@ -13,15 +13,15 @@ pub loop-i-preserved : goal.loop-i-preserved
 loop-i-preserved c =
     let l = c.loop-i in
     let w = c.args.words.now in
-    (omega arith, every_more (Same c.store_fields.new.fields w) l.i (eq-eqb _ _ c.if-own-i.true) l.invariant.1)
+    (omega arith, every_more (Same c.store_fields.new.fields w) l.i (eq-eqb _ _ c.if-own-i.false) l.invariant.1)
 
-pub returns-else-own-i : goal.returns-else-own-i
+pub returns-then-own-i : goal.returns-then-own-i
 unfolding same_words
-returns-else-own-i c =
+returns-then-own-i c =
     let w = c.args.words.now in
     let f = c.args.f in
     let is : c.store_fields.new.fields ≡ words_of f = c.store_fields.ensures ∙ own_words_holds f c.requires.1 in
-    sym (every_fails (Same (words_of f) w) 100 c.loop-i.i c.loop-i-test.true (rw is at (ne_eqb _ _ c.if-own-i.false)))
+    sym (every_fails (Same (words_of f) w) 100 c.loop-i.i c.loop-i-test.true (rw is at (ne_eqb _ _ c.if-own-i.true)))
 
 pub returns : goal.returns
 unfolding same_words
