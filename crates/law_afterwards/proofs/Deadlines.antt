@@ -7,6 +7,7 @@ use mathlib.Core.Bool.{Bool, true, false}
 use mathlib.Core.List.{List}
 use mathlib.Core.Logic.{◌⊎◌, inl, inr}
 use lib.Dec.{eqb}
+use Rattle.std.specs.Prelude.{Ok}
 use Rattle.base_lists.specs.Seq.{pick}
 use Rattle.table_record.specs.Record.{state_number}
 use Rattle.table_record.specs.declared.Record.{Record}
@@ -18,7 +19,6 @@ use Rattle.law_commit.specs.Allowed.{ChangeOk}
 use Rattle.step_changes.specs.Changes.{change_of, turn_changes}
 use Rattle.step_plan.specs.Steps.{step_of, idle_changes, idle_step}
 use Rattle.step_plan.specs.declared.Step.{Step}
-use Rattle.step_plan.specs.declared.Plan.TheVariants.{Go}
 use Rattle.step_live.specs.Turning.{row_at, live_turn, live_step}
 use Rattle.step_opening.specs.Opens.{opened_turn, opening_changes, opening_step}
 use Rattle.step_outcome.specs.Carry.{Lent, Done, table_then, carried_out, outcome}
@@ -33,12 +33,12 @@ use Rattle.law_afterwards.specs.Ways.{TakenBy, ComesAlone, table_left}
 use Rattle.law_commit.proofs.Left.{put_left, cleared_left, none_left}
 use Rattle.law_afterwards.proofs.Ways.{call_way}
 
-module _ (c : Call) (l : Lent) (step : Step) (lends : Lends c l) (goes : plan_for c l ≡ Go step) where
+module _ (c : Call) (l : Lent) (step : Step) (lends : Lends c l) (goes : plan_for c l ≡ Ok step) where
   sound : Sound l step
   unfolding PlanSound
   sound = rw goes at (call_sound c l lends)
 
-  as_done : promised c l ≡ outcome l (Go step)
+  as_done : promised c l ≡ outcome l (Ok step)
   as_done = as_planned c l ∙ ap (outcome l) goes
 
   -- a record that is put is there, in its ranges

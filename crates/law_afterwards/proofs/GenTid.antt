@@ -3,13 +3,12 @@ use Prim.Native.Nat.{ℕ, ◌+◌, ◌%◌}
 use mathlib.Core.Path.{◌≡◌, refl, sym, ap, ◌∙◌}
 use mathlib.Core.Bool.{Bool, true, false}
 use mathlib.Core.Logic.{inl, inr}
+use Rattle.std.specs.Prelude.{Ok, Err}
 use Rattle.base_lists.specs.Seq.{pick}
 use Rattle.base_lists.proofs.StoresAndParts.{true_false}
 use Rattle.table_layout.specs.Table.{gen_tid_of}
-use Rattle.step_plan.specs.Steps.{step_of}
+use Rattle.step_plan.specs.Steps.{step_of, Plan}
 use Rattle.step_plan.specs.declared.Step.{Step}
-use Rattle.step_plan.specs.declared.Plan.{Plan}
-use Rattle.step_plan.specs.declared.Plan.TheVariants.{Refuse, Go}
 use Rattle.step_opening.specs.Opens.{opening_changes, opening_step}
 use Rattle.call_request.specs.Requests.{request_step, counted_by}
 use Rattle.step_outcome.specs.Carry.{Lent, Done, table_then, carried_out, outcome}
@@ -33,8 +32,8 @@ module _ (c : Call) (l : Lent) (lends : Lends c l) where
 
   counted : (p : Plan) → plan_for c l ≡ p → gen_tid_of (outcome l p).table ≡ gen_tid_after c (outcome l p).answer (gen_tid_of l.table)
   unfolding outcome carried_out table_then
-  counted (Refuse r) e = refl
-  counted (Go step) e =
+  counted (Err r) e = refl
+  counted (Ok step) e =
       let a = call_ways c l step e in
       gen_tid_left l.table step.changes l.exit a.fits.formed (way_sound c l step lends a).allowed ∙ column step a.way (is_request c) refl
 

@@ -5,6 +5,7 @@ use mathlib.Core.Bool.{Bool, true, false}
 use mathlib.Core.List.{List}
 use mathlib.Core.Logic.{◌⊎◌, inl, inr}
 use lib.Dec.{eqb}
+use Rattle.std.specs.Prelude.{Option, Some, None, Ok}
 use Rattle.base_layout.specs.Layout.{peers}
 use Rattle.base_lists.specs.Seq.{pick}
 use Rattle.table_layout.specs.Table.{cached_of, record_at}
@@ -14,12 +15,9 @@ use Rattle.row_columns.specs.declared.Cache.{Cache}
 use Rattle.row_columns.specs.declared.Cache.TheVariants as Cache
 use Rattle.row_columns.specs.declared.Act.{Act}
 use Rattle.row_turns.specs.Turns.{turn_of, row_turn, opening_turn}
-use Rattle.step_commit.specs.declared.TidChange.{TidChange}
-use Rattle.step_commit.specs.declared.TidChange.TheVariants.{Unchanged, Set}
 use Rattle.step_changes.specs.Changes.{cached_after, turn_changes}
 use Rattle.step_plan.specs.Steps.{step_of, idle_changes, idle_step}
 use Rattle.step_plan.specs.declared.Step.{Step}
-use Rattle.step_plan.specs.declared.Plan.TheVariants.{Go}
 use Rattle.step_live.specs.Turning.{row_at, live_turn, live_step}
 use Rattle.step_opening.specs.Opens.{opened_turn, opening_changes, opening_step}
 use Rattle.step_outcome.specs.Carry.{Lent, Done, table_then, carried_out, outcome}
@@ -44,12 +42,12 @@ named Cache.Same cached tid = refl
 named Cache.Set cached tid = refl
 named Cache.SetIfNone cached tid = go (eqb cached 0)
   where
-    go : (b : Bool) → header_then (pick b (Set (tid + 1)) Unchanged) cached ≡ pick b (tid + 1) cached
+    go : (b : Bool) → header_then (pick b (Some (tid + 1)) None) cached ≡ pick b (tid + 1) cached
     go true = refl
     go false = refl
 named Cache.Drop cached tid = refl
 
-module _ (c : Call) (l : Lent) (step : Step) (lends : Lends c l) (goes : plan_for c l ≡ Go step) where
+module _ (c : Call) (l : Lent) (step : Step) (lends : Lends c l) (goes : plan_for c l ≡ Ok step) where
   -- the cached TID of the peer of the step's changes
   left : cached_of (table_left c l) step.changes.peer ≡ header_then step.changes.cached (cached_of l.table step.changes.peer)
   unfolding outcome carried_out table_then PlanSound
@@ -84,11 +82,11 @@ module _ (c : Call) (l : Lent) (step : Step) (lends : Lends c l) (goes : plan_fo
   unfolding outcome carried_out table_then PlanSound idle_step idle_changes
   last_tid_idle e peer h = go (equal_or peer step.changes.peer)
     where
-      kept : step.changes.cached ≡ Unchanged
+      kept : step.changes.cached ≡ None
       kept = ap (λ (y : Step). y.changes.cached) e
 
       go : (peer ≡ step.changes.peer) ⊎ (peer ≡ step.changes.peer → ⊥) → cached_of (table_left c l) peer ≡ cached_of l.table peer
-      go (inl d) = rw d (left ∙ ap (λ (x : TidChange). header_then x (cached_of l.table step.changes.peer)) kept)
+      go (inl d) = rw d (left ∙ ap (λ (x : Option ℕ). header_then x (cached_of l.table step.changes.peer)) kept)
       go (inr d) =
           let s : Sound l step = rw goes at (call_sound c l lends) in
           ap (λ (y : Done). cached_of y.table peer) (as_planned c l ∙ ap (outcome l) goes)

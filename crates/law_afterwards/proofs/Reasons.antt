@@ -4,6 +4,7 @@ use mathlib.Core.Path.{◌≡◌, refl, sym, ap, ◌∙◌}
 use mathlib.Core.Bool.{Bool, true, false, ◌||◌}
 use mathlib.Core.Logic.{◌⊎◌, inl, inr}
 use lib.Dec.{eqb}
+use Rattle.std.specs.Prelude.{Ok}
 use Rattle.base_lists.specs.Seq.{pick, every}
 use Rattle.base_lists.proofs.StoresAndParts.{true_false}
 use Rattle.codec_pdu.specs.declared.Kind.TheVariants as Kind
@@ -34,7 +35,6 @@ use Rattle.step_shown.specs.declared.Shown.{Shown}
 use Rattle.step_shown.specs.declared.Shown.TheVariants as Shown
 use Rattle.step_plan.specs.Steps.{step_of, context_of}
 use Rattle.step_plan.specs.declared.Step.{Step}
-use Rattle.step_plan.specs.declared.Plan.TheVariants.{Go}
 use Rattle.step_live.specs.Turning.{row_at, holder_of, live_turn, live_step}
 use Rattle.step_outcome.specs.Carry.{Lent}
 use Rattle.law_never_mixed.specs.NeverMixed.{abort_shown, step_aborts, step_results_is}
@@ -153,7 +153,7 @@ module _ (c : Call) (l : Lent) (step : Step) (role : Role) (peer tid kind reason
         true_false (sym (ap is_abort i) ∙ second_no_abort k.given.kind k.given.reason row r.tidok_sent)
 
 -- "for an abort also type and reason: those received, else provider with the reason sent, or 8 if none is sent"
-pub reason_shown : (c : Call) (l : Lent) (step : Step) → plan_for c l ≡ Go step
+pub reason_shown : (c : Call) (l : Lent) (step : Step) → plan_for c l ≡ Ok step
     → (role : Role) (peer tid kind reason : ℕ) → Shows step (Shown.Abort role peer tid kind reason) → ReceivedSo l kind reason ⊎ SentSo step kind reason
 reason_shown c l step e role peer tid kind reason shows = go (call_way c l step e).0
   where

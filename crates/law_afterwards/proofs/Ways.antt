@@ -3,15 +3,14 @@ use Prim.Native.Nat.{ℕ, ◌%◌}
 use mathlib.Core.Path.{◌≡◌, refl, sym, ap, ◌∙◌}
 use mathlib.Core.Logic.{inl, inr}
 use lib.ListN.{length}
+use Rattle.std.specs.Prelude.{None, Ok}
 use Rattle.codec_reading.specs.Read.{pdu_of}
 use Rattle.table_layout.specs.Table.{count}
 use Rattle.table_finding.specs.Finding.{free_of}
 use Rattle.table_well_formed.specs.WellFormed.{WellFormed}
 use Rattle.row_choice.specs.Rows.{requested_of}
-use Rattle.step_commit.specs.declared.GenTidChange.TheVariants.{Unchanged}
 use Rattle.step_opening.specs.Opens.{place_for}
 use Rattle.step_plan.specs.declared.Step.{Step}
-use Rattle.step_plan.specs.declared.Plan.TheVariants.{Go}
 use Rattle.call_request.specs.Requests.{requester, counted_by, request_given, request_call, request_step}
 use Rattle.call_request.specs.declared.Request.{Request}
 use Rattle.call_request.proofs.Accepted.{place_of}
@@ -43,7 +42,7 @@ module _ (c : Call) (l : Lent) (step : Step) where
     opening = arrival_opening l.table a.peer a.unmatched.tid l.given (pdu_of l.given);
     holder = arriver_of (place_for (free_of l.table (count l.table))) a.unmatched.role a.peer a.unmatched.tid (pdu_of l.given).kind;
     given = opened_given a.time (pdu_of l.given);
-    gen_tid = Unchanged;
+    gen_tid = None;
     asked = opened_call (pdu_of l.given);
     step_is = a.step_is;
     time = ap time_of (sym a.call_is);
@@ -56,5 +55,5 @@ module _ (c : Call) (l : Lent) (step : Step) where
   of_way (inr (inr (inr a))) = inr (inr (arrived a))
 
 -- the way of any accepted call, and that its table is well formed
-pub call_way : (c : Call) (l : Lent) (step : Step) → plan_for c l ≡ Go step → Way c l step × WellFormed l.table
+pub call_way : (c : Call) (l : Lent) (step : Step) → plan_for c l ≡ Ok step → Way c l step × WellFormed l.table
 call_way c l step e = let a = call_ways c l step e in (of_way c l step a.way, a.fits.formed)

@@ -1,12 +1,12 @@
 -- The ways of an accepted call: an event that a live record takes, something that comes without one, or nothing but the time.
-use Rattle.std.specs.Prelude.{ℕ, ◌≡◌, List, ◌⊎◌}
+use Rattle.std.specs.Prelude.{ℕ, ◌≡◌, List, ◌⊎◌, Option}
 use Rattle.codec_pdu.specs.declared.Kind.TheVariants as Kind
 use Rattle.codec_reading.specs.Read.{pdu_of}
 use Rattle.row_events.specs.declared.Event.{Event}
 use Rattle.row_events.specs.declared.Event.TheVariants as Event
 use Rattle.row_events.specs.declared.Opening.{Opening}
 use Rattle.row_turns.specs.declared.Given.{Given}
-use Rattle.step_commit.specs.declared.GenTidChange.{GenTidChange}
+use Rattle.step_commit.specs.declared.GenTid.{GenTid}
 use Rattle.step_plan.specs.Steps.{idle_step}
 use Rattle.step_plan.specs.declared.Holder.{Holder}
 use Rattle.step_plan.specs.declared.Call.{Call as Asked}
@@ -31,7 +31,7 @@ pub record ComesAlone (call : Call) (l : Lent) (step : Step) : Type 0 where
   pub opening : Opening
   pub holder : Holder
   pub given : Given
-  pub gen_tid : GenTidChange
+  pub gen_tid : Option GenTid
   pub asked : Asked
   pub step_is : step ≡ opening_step l.table opening holder given gen_tid asked
   pub time : given.time ≡ time_of call

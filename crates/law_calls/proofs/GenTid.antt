@@ -6,6 +6,7 @@ use mathlib.Core.List.{List}
 use mathlib.Core.Bool.{Bool, true, false}
 use mathlib.Core.Logic.{◌⊎◌, inl, inr}
 use lib.ListN.{replicate}
+use Rattle.std.specs.Prelude.{Option, Some, None, Ok, Err}
 use Rattle.base_layout.specs.Layout.{record_size, cached_at, base, exit_base}
 use Rattle.base_lists.specs.Seq.{put}
 use Rattle.base_lists.proofs.StoresAndParts.{true_false}
@@ -16,20 +17,13 @@ use Rattle.codec_reading.specs.Read.{pdu_of}
 use Rattle.table_layout.specs.Table.{count, gen_tid_of, put_record, clear_record, put_cached, put_clock}
 use Rattle.table_layout.proofs.Apart.{gen_tid_apart}
 use Rattle.table_finding.specs.Finding.{due_of}
-use Rattle.table_finding.specs.declared.Found.{Found}
-use Rattle.table_finding.specs.declared.Found.TheVariants as Found
 use Rattle.step_commit.specs.declared.Change.{Change}
 use Rattle.step_commit.specs.declared.Change.TheVariants.{Nothing, Put, Clear}
-use Rattle.step_commit.specs.declared.GenTidChange.TheVariants as GenTidChange
-use Rattle.step_commit.specs.declared.TidChange.{TidChange}
-use Rattle.step_commit.specs.declared.TidChange.TheVariants.{Unchanged, Set}
 use Rattle.step_commit.specs.declared.Changes.{Changes}
 use Rattle.step_commit.specs.Commit.{record_changed, exit_stored, gen_tid_changed, cache_changed, table_changed}
 use Rattle.step_changes.specs.Changes.{turn_changes}
-use Rattle.step_plan.specs.Steps.{step_of, idle_changes, idle_step}
+use Rattle.step_plan.specs.Steps.{step_of, idle_changes, idle_step, Plan}
 use Rattle.step_plan.specs.declared.Step.{Step}
-use Rattle.step_plan.specs.declared.Plan.{Plan}
-use Rattle.step_plan.specs.declared.Plan.TheVariants.{Refuse, Go}
 use Rattle.step_live.specs.Turning.{live_step}
 use Rattle.step_opening.specs.Opens.{opening_changes, opening_step}
 use Rattle.call_primitive.specs.Primitives.{primitive_step}
@@ -60,10 +54,10 @@ unfolding exit_stored
 exit_keeps t place true exit = past t (exit_base place) exit (omega arith)
 exit_keeps t place false exit = refl
 
-cached_keeps : (t : List ℕ) (peer : ℕ) (c : TidChange) → gen_tid_of (cache_changed t peer c) ≡ gen_tid_of t
+cached_keeps : (t : List ℕ) (peer : ℕ) (c : Option ℕ) → gen_tid_of (cache_changed t peer c) ≡ gen_tid_of t
 unfolding cache_changed put_cached
-cached_keeps t peer Unchanged = refl
-cached_keeps t peer (Set v) = past t (cached_at + peer * 2) (enc 2 v) (omega arith)
+cached_keeps t peer None = refl
+cached_keeps t peer (Some v) = past t (cached_at + peer * 2) (enc 2 v) (omega arith)
 
 clock_keeps : (t : List ℕ) (time : ℕ) → gen_tid_of (put_clock t time) ≡ gen_tid_of t
 unfolding put_clock
@@ -74,7 +68,7 @@ after_changes : (t : List ℕ) (c : Changes) (exit : List ℕ) → gen_tid_of (t
 unfolding table_changed
 after_changes t c exit = clock_keeps _ c.time ∙ cached_keeps _ c.peer c.cached
 
-pub step_keeps_gen_tid : (l : Lent) (step : Step) → step.changes.gen_tid ≡ GenTidChange.Unchanged → gen_tid_of (carried_out l step).table ≡ gen_tid_of l.table
+pub step_keeps_gen_tid : (l : Lent) (step : Step) → step.changes.gen_tid ≡ None → gen_tid_of (carried_out l step).table ≡ gen_tid_of l.table
 unfolding carried_out table_then gen_tid_changed
 step_keeps_gen_tid l step e =
     after_changes l.table step.changes l.exit
@@ -82,7 +76,7 @@ step_keeps_gen_tid l step e =
 
 -- a step that leaves GenTID
 abbrev Leaves : Step → Type 0
-Leaves step = step.changes.gen_tid ≡ GenTidChange.Unchanged
+Leaves step = step.changes.gen_tid ≡ None
 
 pub step_leaves : (c : Call) (l : Lent) (step : Step) → is_request c ≡ false → Way c l step → Leaves step
 unfolding idle_step idle_changes live_step step_of turn_changes unmatched_step opened_step opening_step opening_changes
@@ -91,10 +85,10 @@ step_leaves c l step r (inr (inl k)) = rw k.step_is refl
 step_leaves c l step r (inr (inr (inl q))) = true_false (sym (ap is_request q.call_is) ∙ r)
 step_leaves c l step r (inr (inr (inr u))) = rw u.step_is refl
 
-of_plan : (l : Lent) (p : Plan) → ((step : Step) → p ≡ Go step → Leaves step) → gen_tid_of (outcome l p).table ≡ gen_tid_of l.table
+of_plan : (l : Lent) (p : Plan) → ((step : Step) → p ≡ Ok step → Leaves step) → gen_tid_of (outcome l p).table ≡ gen_tid_of l.table
 unfolding outcome
-of_plan l (Refuse r) leaves = refl
-of_plan l (Go step) leaves = step_keeps_gen_tid l step (leaves step refl)
+of_plan l (Err r) leaves = refl
+of_plan l (Ok step) leaves = step_keeps_gen_tid l step (leaves step refl)
 
 -- only a request changes GenTID
 pub call_keeps_gen_tid : (c : Call) (l : Lent) → is_request c ≡ false → gen_tid_of (promised c l).table ≡ gen_tid_of l.table

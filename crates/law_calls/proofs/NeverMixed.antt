@@ -4,12 +4,11 @@ use mathlib.Core.Path.{◌≡◌, refl, sym, ap, ◌∙◌}
 use mathlib.Core.List.{List}
 use mathlib.Core.Bool.{Bool, true, false, ◌&&◌, ◌||◌}
 use mathlib.Core.Logic.{◌⊎◌, inl, inr}
+use Rattle.std.specs.Prelude.{None, Ok, Err}
 use Rattle.base_lists.specs.Seq.{pick}
 use Rattle.base_lists.proofs.StoresAndParts.{true_false}
 use Rattle.table_layout.specs.Table.{count, record_at}
 use Rattle.table_finding.specs.Finding.{free_of, due_of}
-use Rattle.table_finding.specs.declared.Found.{Found}
-use Rattle.table_finding.specs.declared.Found.TheVariants as Found
 use Rattle.table_record.specs.declared.Role.{Role}
 use Rattle.table_record.specs.declared.State.TheVariants.{IResultWait2}
 use Rattle.codec_pdu.specs.declared.Kind.TheVariants as Kind
@@ -26,13 +25,10 @@ use Rattle.step_shown.specs.Shows.{shown_of, place_of}
 use Rattle.step_shown.specs.declared.Place.{Place}
 use Rattle.step_shown.specs.declared.Shown.{Shown}
 use Rattle.step_shown.specs.declared.Shown.TheVariants as Shown
-use Rattle.step_commit.specs.declared.GenTidChange.TheVariants.{Unchanged}
 use Rattle.step_opening.specs.Opens.{place_for}
 use Rattle.step_plan.specs.declared.Holder.{Holder}
-use Rattle.step_plan.specs.Steps.{place_in, context_of, idle_step}
+use Rattle.step_plan.specs.Steps.{place_in, context_of, idle_step, Plan}
 use Rattle.step_plan.specs.declared.Step.{Step}
-use Rattle.step_plan.specs.declared.Plan.{Plan}
-use Rattle.step_plan.specs.declared.Plan.TheVariants.{Refuse, Go}
 use Rattle.call_request.specs.Requests.{requester, counted_by, request_given, request_call, request_step}
 use Rattle.call_request.specs.declared.Request.{Request}
 use Rattle.call_request.proofs.Accepted.{request_accepted}
@@ -72,7 +68,7 @@ unmatched_apart : (t : List ℕ) (role : Role) (peer tid time : ℕ) (s : List �
 unfolding unmatched_step opened_step
 unmatched_apart t role peer tid time s p =
     let h : Holder = arriver_of (place_for (free_of t (count t))) role peer tid p.kind in
-    quiet (unmatched_step t role peer tid time s p) (opening_neither t (arrival_opening t peer tid s p) h (opened_given time p) Unchanged (opened_call p))
+    quiet (unmatched_step t role peer tid time s p) (opening_neither t (arrival_opening t peer tid s p) h (opened_given time p) None (opened_call p))
 
 -- the step of any accepted call
 pub step_apart : (c : Call) (l : Lent) (step : Step) → Way c l step → Apart step
@@ -81,10 +77,10 @@ step_apart c l step (inr (inl k)) = rw k.step_is (live_never_both l.table k.plac
 step_apart c l step (inr (inr (inl q))) = rw q.accepted.step_is (request_apart l.table _ _)
 step_apart c l step (inr (inr (inr u))) = rw u.step_is (unmatched_apart l.table u.unmatched.role u.peer u.unmatched.tid u.time l.given (pdu_of l.given))
 
-of_plan : (l : Lent) (p : Plan) → ((step : Step) → p ≡ Go step → Apart step) → shows_abort (outcome l p).answer && shows_result (outcome l p).answer ≡ false
+of_plan : (l : Lent) (p : Plan) → ((step : Step) → p ≡ Ok step → Apart step) → shows_abort (outcome l p).answer && shows_result (outcome l p).answer ≡ false
 unfolding outcome carried_out
-of_plan l (Refuse r) apart = refl
-of_plan l (Go step) apart = apart step refl
+of_plan l (Err r) apart = refl
+of_plan l (Ok step) apart = apart step refl
 
 -- NEVER MIXED UP: no call's answer shows both an abort and a result
 pub never_both : (c : Call) (l : Lent) → shows_abort (promised c l).answer && shows_result (promised c l).answer ≡ false

@@ -2,11 +2,10 @@
 use Prim.Native.Nat.{ℕ}
 use mathlib.Core.Path.{◌≡◌, refl, sym, ap, ◌∙◌}
 use mathlib.Core.List.{List}
+use Rattle.std.specs.Prelude.{Ok, Err}
 use Rattle.base_numbers.specs.declared.Refusal.{Refusal}
 use Rattle.step_plan.specs.declared.Step.{Step}
-use Rattle.step_plan.specs.declared.Plan.TheVariants.{Refuse, Go}
-use Rattle.step_outcome.specs.Carry.{Lent, Done, done, outcome}
-use Rattle.step_outcome.specs.declared.Answer.{Answer}
+use Rattle.step_outcome.specs.Carry.{Lent, Done, done, outcome, Answer}
 use Rattle.call_plans.specs.Calls.{Call, promised, Lends, plan_for}
 use Rattle.law_steps_sound.specs.Sound.{Fits}
 use Rattle.law_plans_sound.specs.Plans.{PlanSound, Untouched, RestUnchanged, StillFits}
@@ -30,13 +29,13 @@ unfolding promised
 call_still_fits c l k f = still_fits l (plan_for c l) f (call_sound c l k)
 
 -- "A refusal gives only its number and changes no lent byte"
-pub call_refused : (c : Call) (l : Lent) (r : Refusal) → plan_for c l ≡ Refuse r → Untouched l (promised c l)
+pub call_refused : (c : Call) (l : Lent) (r : Refusal) → plan_for c l ≡ Err r → Untouched l (promised c l)
 unfolding promised
 call_refused c l r e = rw e (refused_untouched l r)
 
 -- FRAME: an accepted call changes no record but the one at its step's place
-pub call_keeps : (c : Call) (l : Lent) (step : Step) → Lends c l → Fits l → plan_for c l ≡ Go step → RestUnchanged l (promised c l) step
+pub call_keeps : (c : Call) (l : Lent) (step : Step) → Lends c l → Fits l → plan_for c l ≡ Ok step → RestUnchanged l (promised c l) step
 unfolding promised outcome PlanSound
 call_keeps c l step k f e =
-    let s : PlanSound l (Go step) = rw e at (call_sound c l k) in
+    let s : PlanSound l (Ok step) = rw e at (call_sound c l k) in
     rw e (step_keeps l step f s)

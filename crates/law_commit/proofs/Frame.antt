@@ -6,6 +6,7 @@ use mathlib.Core.List.{List, [], ◌∷◌}
 use mathlib.Core.Logic.{inl, inr}
 use mathlib.Core.Bool.{Bool, true, false}
 use lib.ListN.{length, replicate, length-replicate}
+use Rattle.std.specs.Prelude.{Option, Some, None}
 use Rattle.base_layout.specs.Layout.{record_size, fields_size, tidnew_due_at, cached_at, exit_offset, base, peers, exit_bound}
 use Rattle.base_lists.specs.Seq.{bit, put}
 use Rattle.base_octets.specs.Octets.{enc, Apart}
@@ -18,10 +19,7 @@ use Rattle.table_layout.proofs.Put.{apart_records, clock_same}
 use Rattle.table_well_formed.specs.WellFormed.{WellFormed}
 use Rattle.step_commit.specs.declared.Change.{Change}
 use Rattle.step_commit.specs.declared.Change.TheVariants.{Nothing, Put, Clear}
-use Rattle.step_commit.specs.declared.GenTidChange.{GenTidChange}
-use Rattle.step_commit.specs.declared.GenTidChange.TheVariants as GenTidChange
-use Rattle.step_commit.specs.declared.TidChange.{TidChange}
-use Rattle.step_commit.specs.declared.TidChange.TheVariants.{Unchanged, Set}
+use Rattle.step_commit.specs.declared.GenTid.{GenTid}
 use Rattle.step_commit.specs.declared.Changes.{Changes}
 use Rattle.step_commit.specs.Commit.{record_changed, exit_stored, gen_tid_changed, cache_changed, table_changed}
 use Rattle.step_commit.proofs.Length.{length_clock, length_after}
@@ -80,19 +78,19 @@ module _ (place peer : ℕ) where
   exit_same t true exit h = in_record t exit_offset exit (omega arith)
   exit_same t false exit h = itself t
 
-  gen_tid_same : (t : List ℕ) (c : GenTidChange) → Same place peer t (gen_tid_changed t c)
+  gen_tid_same : (t : List ℕ) (c : Option GenTid) → Same place peer t (gen_tid_changed t c)
   unfolding gen_tid_changed put_gen_tid put_tidnew_due
-  gen_tid_same t GenTidChange.Unchanged = itself t
-  gen_tid_same t (GenTidChange.Set v due) =
-      let n : length (enc 2 v) ≡ 2 = length_enc 2 v in
-      then_same t (put t 8 (enc 2 v)) _
-      (stored t 8 (enc 2 v) (λ j d. inr (omega arith)) (inr (omega arith)) (λ p h d. inr (omega arith)))
-      (stored (put t 8 (enc 2 v)) tidnew_due_at (bit due ∷ []) (λ j d. inr (omega arith)) (inl (omega arith)) (λ p h d. inr (omega arith)))
+  gen_tid_same t None = itself t
+  gen_tid_same t (Some g) =
+      let n : length (enc 2 g.tid) ≡ 2 = length_enc 2 g.tid in
+      then_same t (put t 8 (enc 2 g.tid)) _
+      (stored t 8 (enc 2 g.tid) (λ j d. inr (omega arith)) (inr (omega arith)) (λ p h d. inr (omega arith)))
+      (stored (put t 8 (enc 2 g.tid)) tidnew_due_at (bit g.tidnew_due ∷ []) (λ j d. inr (omega arith)) (inl (omega arith)) (λ p h d. inr (omega arith)))
 
-  cached_same : (t : List ℕ) (c : TidChange) → peer < peers → Same place peer t (cache_changed t peer c)
+  cached_same : (t : List ℕ) (c : Option ℕ) → peer < peers → Same place peer t (cache_changed t peer c)
   unfolding cache_changed put_cached
-  cached_same t Unchanged l = itself t
-  cached_same t (Set v) l =
+  cached_same t None l = itself t
+  cached_same t (Some v) l =
       let n : length (enc 2 v) ≡ 2 = length_enc 2 v in
       stored t (cached_at + peer * 2) (enc 2 v) (λ j d. inr (omega arith)) (inl (omega arith)) (λ p h d. rw n (apart_rows cached_at 2 p peer d))
 

@@ -5,6 +5,7 @@ use mathlib.Core.Path.{◌≡◌, refl}
 use mathlib.Core.List.{List}
 use mathlib.Core.Bool.{Bool, true, false}
 use lib.ListN.{length}
+use Rattle.std.specs.Prelude.{Option, Some, None}
 use Rattle.base_layout.specs.Layout.{record_size, base, peers, exit_bound}
 use Rattle.base_lists.proofs.StoresAndParts.{true_false}
 use Rattle.table_layout.specs.Table.{count, record_at, put_record}
@@ -15,10 +16,7 @@ use Rattle.law_formed_kept.proofs.InHeader.{clock_keeps, gen_tid_keeps, tidnew_d
 use Rattle.law_formed_kept.proofs.Keeps.{range_fits, put_keeps, clear_keeps, exit_keeps}
 use Rattle.step_commit.specs.declared.Change.{Change}
 use Rattle.step_commit.specs.declared.Change.TheVariants.{Nothing, Put, Clear}
-use Rattle.step_commit.specs.declared.GenTidChange.{GenTidChange}
-use Rattle.step_commit.specs.declared.GenTidChange.TheVariants as GenTidChange
-use Rattle.step_commit.specs.declared.TidChange.{TidChange}
-use Rattle.step_commit.specs.declared.TidChange.TheVariants.{Unchanged, Set}
+use Rattle.step_commit.specs.declared.GenTid.{GenTid}
 use Rattle.step_commit.specs.declared.Changes.{Changes}
 use Rattle.step_commit.specs.Commit.{record_changed, exit_stored, gen_tid_changed, cache_changed, table_changed}
 use Rattle.step_commit.proofs.Length.{length_changed}
@@ -50,15 +48,15 @@ unfolding exit_stored
 exit_part t place true exit w h live fits = exit_keeps t place exit w h (live refl) fits
 exit_part t place false exit w h live fits = w
 
-gen_tid_part : (t : List ℕ) (c : GenTidChange) → WellFormed t → CountOk c → WellFormed (gen_tid_changed t c)
+gen_tid_part : (t : List ℕ) (c : Option GenTid) → WellFormed t → CountOk c → WellFormed (gen_tid_changed t c)
 unfolding gen_tid_changed CountOk
-gen_tid_part t GenTidChange.Unchanged w ok = w
-gen_tid_part t (GenTidChange.Set v due) w ok = tidnew_due_keeps _ due (gen_tid_keeps t v w ok)
+gen_tid_part t None w ok = w
+gen_tid_part t (Some g) w ok = tidnew_due_keeps _ g.tidnew_due (gen_tid_keeps t g.tid w ok)
 
-cached_part : (t : List ℕ) (peer : ℕ) (c : TidChange) → WellFormed t → peer < peers → SetOk c → WellFormed (cache_changed t peer c)
+cached_part : (t : List ℕ) (peer : ℕ) (c : Option ℕ) → WellFormed t → peer < peers → SetOk c → WellFormed (cache_changed t peer c)
 unfolding cache_changed SetOk
-cached_part t peer Unchanged w h ok = w
-cached_part t peer (Set v) w h ok = cached_keeps t peer v w h ok
+cached_part t peer None w h ok = w
+cached_part t peer (Some v) w h ok = cached_keeps t peer v w h ok
 
 pub commit_keeps : (t : List ℕ) (c : Changes) (exit : List ℕ) → WellFormed t → Allowed t c exit → WellFormed (table_changed t c exit)
 unfolding table_changed

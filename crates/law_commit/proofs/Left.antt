@@ -6,6 +6,7 @@ use mathlib.Core.Bool.{Bool, true, false}
 use mathlib.Core.List.{List, [], ◌∷◌}
 use mathlib.Core.Logic.{◌⊎◌, inl, inr}
 use lib.ListN.{length, get_or, replicate, length-replicate}
+use Rattle.std.specs.Prelude.{Option, Some, None}
 use Rattle.base_layout.specs.Layout.{header_size, record_size, fields_size, tidnew_due_at, header_spare_at, cached_at, base, exit_base}
 use Rattle.base_lists.specs.Seq.{bit, put}
 use Rattle.base_lists.proofs.StoresAndParts.{length_put}
@@ -24,10 +25,7 @@ use Rattle.law_formed_kept.proofs.Keeps.{range_fits}
 use Rattle.step_commit.specs.Commit.{record_changed, exit_stored, gen_tid_changed, cache_changed, table_changed}
 use Rattle.step_commit.specs.declared.Change.{Change}
 use Rattle.step_commit.specs.declared.Change.TheVariants.{Nothing, Put, Clear}
-use Rattle.step_commit.specs.declared.GenTidChange.{GenTidChange}
-use Rattle.step_commit.specs.declared.GenTidChange.TheVariants as GenTidChange
-use Rattle.step_commit.specs.declared.TidChange.{TidChange}
-use Rattle.step_commit.specs.declared.TidChange.TheVariants.{Unchanged, Set}
+use Rattle.step_commit.specs.declared.GenTid.{GenTid}
 use Rattle.step_commit.specs.declared.Changes.{Changes}
 use Rattle.step_commit.proofs.Length.{length_after, length_clock}
 use Rattle.law_commit.specs.Allowed.{ChangeOk, SetOk, CountOk, Allowed}
@@ -50,33 +48,33 @@ module _ {A : Type 0} (f : List ℕ → A) (at n : ℕ) (apart : (t : List ℕ) 
   unfolding put_tidnew_due
   past_due t due h = apart t tidnew_due_at (bit due ∷ []) h
 
-  past_gen_tid : (t : List ℕ) (c : GenTidChange) → header_spare_at ≤ at → f (gen_tid_changed t c) ≡ f t
+  past_gen_tid : (t : List ℕ) (c : Option GenTid) → header_spare_at ≤ at → f (gen_tid_changed t c) ≡ f t
   unfolding gen_tid_changed put_gen_tid
-  past_gen_tid t GenTidChange.Unchanged h = refl
-  past_gen_tid t (GenTidChange.Set v due) h = past_due _ due (inr (omega arith)) ∙ apart t 8 (enc 2 v) (inr (omega (arith, length_enc 2 v)))
+  past_gen_tid t None h = refl
+  past_gen_tid t (Some g) h = past_due _ g.tidnew_due (inr (omega arith)) ∙ apart t 8 (enc 2 g.tid) (inr (omega (arith, length_enc 2 g.tid)))
 
-  past_cached : (t : List ℕ) (peer : ℕ) (c : TidChange) → Apart at n (cached_at + peer * 2) 2 → f (cache_changed t peer c) ≡ f t
+  past_cached : (t : List ℕ) (peer : ℕ) (c : Option ℕ) → Apart at n (cached_at + peer * 2) 2 → f (cache_changed t peer c) ≡ f t
   unfolding cache_changed put_cached
-  past_cached t peer Unchanged h = refl
-  past_cached t peer (Set v) h = apart t (cached_at + peer * 2) (enc 2 v) (rw (length_enc 2 v) h)
+  past_cached t peer None h = refl
+  past_cached t peer (Some v) h = apart t (cached_at + peer * 2) (enc 2 v) (rw (length_enc 2 v) h)
 
   past_clock : (t : List ℕ) (time : ℕ) → 8 ≤ at → f (put_clock t time) ≡ f t
   unfolding put_clock
   past_clock t time h = apart t 0 (enc 8 time) (inr (omega (arith, length_enc 8 time)))
 
 -- a number of the header, as it is set or kept
-abbrev pub header_then : TidChange → ℕ → ℕ
-header_then Unchanged was = was
-header_then (Set v) was = v
+abbrev pub header_then : Option ℕ → ℕ → ℕ
+header_then None was = was
+header_then (Some v) was = v
 
-abbrev pub gen_tid_then : GenTidChange → ℕ → ℕ
-gen_tid_then GenTidChange.Unchanged was = was
-gen_tid_then (GenTidChange.Set v due) was = v
+abbrev pub gen_tid_then : Option GenTid → ℕ → ℕ
+gen_tid_then None was = was
+gen_tid_then (Some g) was = g.tid
 
 -- and the flag of TIDnew with it
-abbrev pub due_then : GenTidChange → Bool → Bool
-due_then GenTidChange.Unchanged was = was
-due_then (GenTidChange.Set v due) was = due
+abbrev pub due_then : Option GenTid → Bool → Bool
+due_then None was = was
+due_then (Some g) was = g.tidnew_due
 
 module _ (t : List ℕ) (c : Changes) (exit : List ℕ) (w : WellFormed t) (ok : Allowed t c exit) where
   abbrev t₂ : List ℕ
@@ -87,10 +85,10 @@ module _ (t : List ℕ) (c : Changes) (exit : List ℕ) (w : WellFormed t) (ok :
 
   -- the changes but for the header's
   abbrev inRecord : Changes
-  inRecord = record { place = c.place; change = c.change; exit = c.exit; gen_tid = GenTidChange.Unchanged; peer = c.peer; cached = Unchanged; time = c.time }
+  inRecord = record { place = c.place; change = c.change; exit = c.exit; gen_tid = None; peer = c.peer; cached = None; time = c.time }
 
   abbrev butCached : Changes
-  butCached = record { place = c.place; change = c.change; exit = c.exit; gen_tid = c.gen_tid; peer = c.peer; cached = Unchanged; time = c.time }
+  butCached = record { place = c.place; change = c.change; exit = c.exit; gen_tid = c.gen_tid; peer = c.peer; cached = None; time = c.time }
 
   sized₂ : header_size ≤ length t₂
   unfolding table_changed gen_tid_changed cache_changed
@@ -100,10 +98,10 @@ module _ (t : List ℕ) (c : Changes) (exit : List ℕ) (w : WellFormed t) (ok :
   unfolding table_changed cache_changed
   sized₃ = omega (arith, length_clock t₃ c.time, length_after t butCached exit, w.sized.whole)
 
-  gen_tid_set : (h : GenTidChange) → CountOk h → gen_tid_of (gen_tid_changed t₂ h) ≡ gen_tid_then h (gen_tid_of t₂)
+  gen_tid_set : (h : Option GenTid) → CountOk h → gen_tid_of (gen_tid_changed t₂ h) ≡ gen_tid_then h (gen_tid_of t₂)
   unfolding gen_tid_changed CountOk
-  gen_tid_set GenTidChange.Unchanged k = refl
-  gen_tid_set (GenTidChange.Set v due) k = past_due gen_tid_of 8 2 gen_tid_apart _ due (inl (omega arith)) ∙ gen_tid_same t₂ v sized₂ (omega arith)
+  gen_tid_set None k = refl
+  gen_tid_set (Some g) k = past_due gen_tid_of 8 2 gen_tid_apart _ g.tidnew_due (inl (omega arith)) ∙ gen_tid_same t₂ g.tid sized₂ (omega arith)
 
   pub gen_tid_left : gen_tid_of (table_changed t c exit) ≡ gen_tid_then c.gen_tid (gen_tid_of t)
   unfolding table_changed
@@ -114,10 +112,10 @@ module _ (t : List ℕ) (c : Changes) (exit : List ℕ) (w : WellFormed t) (ok :
       ∙ gen_tid_set c.gen_tid ok.gen_tid
       ∙ ap (gen_tid_then c.gen_tid) before
 
-  due_set : (h : GenTidChange) → tidnew_due_of (gen_tid_changed t₂ h) ≡ due_then h (tidnew_due_of t₂)
+  due_set : (h : Option GenTid) → tidnew_due_of (gen_tid_changed t₂ h) ≡ due_then h (tidnew_due_of t₂)
   unfolding gen_tid_changed put_gen_tid
-  due_set GenTidChange.Unchanged = refl
-  due_set (GenTidChange.Set v due) = tidnew_due_same (put t₂ 8 (enc 2 v)) due (omega (arith, sized₂, length_put t₂ 8 (enc 2 v)))
+  due_set None = refl
+  due_set (Some g) = tidnew_due_same (put t₂ 8 (enc 2 g.tid)) g.tidnew_due (omega (arith, sized₂, length_put t₂ 8 (enc 2 g.tid)))
 
   pub tidnew_due_left : tidnew_due_of (table_changed t c exit) ≡ due_then c.gen_tid (tidnew_due_of t)
   unfolding table_changed
@@ -128,10 +126,10 @@ module _ (t : List ℕ) (c : Changes) (exit : List ℕ) (w : WellFormed t) (ok :
       ∙ due_set c.gen_tid
       ∙ ap (due_then c.gen_tid) before
 
-  cached_set : (h : TidChange) → SetOk h → cached_of (cache_changed t₃ c.peer h) c.peer ≡ header_then h (cached_of t₃ c.peer)
+  cached_set : (h : Option ℕ) → SetOk h → cached_of (cache_changed t₃ c.peer h) c.peer ≡ header_then h (cached_of t₃ c.peer)
   unfolding cache_changed SetOk
-  cached_set Unchanged k = refl
-  cached_set (Set v) k = cached_same t₃ c.peer v sized₃ ok.peer (omega arith)
+  cached_set None k = refl
+  cached_set (Some v) k = cached_same t₃ c.peer v sized₃ ok.peer (omega arith)
 
   abbrev cachedHere : List ℕ → ℕ
   cachedHere x = cached_of x c.peer

@@ -1,16 +1,12 @@
 -- Which changes keep a table well formed, and what they leave as it was.
-use Rattle.std.specs.Prelude.{ℕ, ◌≤◌, ◌<◌, ◌≡◌, List, Bool, true, false, length}
+use Rattle.std.specs.Prelude.{ℕ, ◌≤◌, ◌<◌, ◌≡◌, List, Bool, false, length, Option, Some, None}
 use Rattle.base_layout.specs.Layout.{time_bound, tid_bound, cached_bound, peers, exit_bound}
-use Rattle.table_record.specs.declared.Record.{Record}
 use Rattle.table_layout.specs.Table.{count, settings_of, intervals_of, cached_of, record_at, clock_of}
 use Rattle.table_record_ok.specs.OneRecord.{InRange}
 use Rattle.law_formed_kept.specs.UnusedName.{Unused}
 use Rattle.step_commit.specs.declared.Change.{Change}
 use Rattle.step_commit.specs.declared.Change.TheVariants.{Nothing, Put, Clear}
-use Rattle.step_commit.specs.declared.GenTidChange.{GenTidChange}
-use Rattle.step_commit.specs.declared.GenTidChange.TheVariants as GenTidChange
-use Rattle.step_commit.specs.declared.TidChange.{TidChange}
-use Rattle.step_commit.specs.declared.TidChange.TheVariants.{Unchanged, Set}
+use Rattle.step_commit.specs.declared.GenTid.{GenTid}
 use Rattle.step_commit.specs.declared.Changes.{Changes}
 
 -- a record that is put is in range, and no other live record has its role, peer and TID; exit information is stored only with one
@@ -20,14 +16,14 @@ ChangeOk t place (Put r) exit = InRange (settings_of t) r × Unused t place r
 ChangeOk t place Clear exit = exit ≡ false
 
 -- a cached TID that is set is in its range
-unfoldable pub SetOk : TidChange → Type 0
-SetOk Unchanged = Unit
-SetOk (Set v) = v ≤ cached_bound
+unfoldable pub SetOk : Option ℕ → Type 0
+SetOk None = Unit
+SetOk (Some v) = v ≤ cached_bound
 
 -- and so is GenTID
-unfoldable pub CountOk : GenTidChange → Type 0
-CountOk GenTidChange.Unchanged = Unit
-CountOk (GenTidChange.Set v due) = v ≤ tid_bound
+unfoldable pub CountOk : Option GenTid → Type 0
+CountOk None = Unit
+CountOk (Some g) = g.tid ≤ tid_bound
 
 -- the changes of an accepted call
 pub record Allowed (t : List ℕ) (c : Changes) (exit : List ℕ) : Type 0 where

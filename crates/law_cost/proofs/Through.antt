@@ -2,9 +2,9 @@
 use Prim.Native.Nat.{ℕ}
 use mathlib.Core.Path.{◌≡◌, refl, sym, subst}
 use mathlib.Core.List.{List, [], ◌∷◌}
+use Rattle.std.specs.Prelude.{Ok, Err}
 use Rattle.base_lists.proofs.StoresAndParts.{true_false}
-use Rattle.step_plan.specs.declared.Plan.{Plan}
-use Rattle.step_plan.specs.declared.Plan.TheVariants.{Refuse, Go}
+use Rattle.step_plan.specs.Steps.{Plan}
 use Rattle.call_plans.specs.Calls.{plan_for}
 use Rattle.law_history.specs.Trace.{Entry, Promise, Run, Throughout}
 use Rattle.law_history.specs.Tally.{Name}
@@ -26,8 +26,8 @@ any_move : (e : Entry) → Promise e → Move e
 any_move e p = go (plan_for e.call e.lent) refl
   where
     go : (plan : Plan) → plan_for e.call e.lent ≡ plan → Move e
-    go (Refuse r) q = inl (refused_quiet e p r q)
-    go (Go step) q = moves e p step q
+    go (Err r) q = inl (refused_quiet e p r q)
+    go (Ok step) q = moves e p step q
 
 -- at the start nothing is asked
 none_counted : {A : Type 0} (n : Name) → Counted [] n → A

@@ -5,6 +5,7 @@ use mathlib.Core.Path.{◌≡◌, refl, sym, ap, subst, ◌∙◌}
 use mathlib.Core.Bool.{Bool, true, false}
 use mathlib.Core.List.{List, ◌∷◌}
 use mathlib.Core.Logic.{◌⊎◌, inl, inr}
+use Rattle.std.specs.Prelude.{Option, Some, None}
 use Rattle.base_lists.proofs.StoresAndParts.{true_false}
 use Rattle.table_record.specs.Record.{role_of, role_number}
 use Rattle.table_record.specs.declared.Role.{Role}
@@ -12,12 +13,9 @@ use Rattle.table_record.specs.declared.Role.TheVariants.{Initiator, Responder}
 use Rattle.table_record.specs.declared.Record.{Record}
 use Rattle.table_record_ok.specs.OneRecord.{Live}
 use Rattle.table_layout.specs.Table.{record_at}
-use Rattle.step_arrivals.specs.declared.Name.{Name as Bearer}
-use Rattle.step_arrivals.specs.declared.Name.TheVariants.{Nobody, Of}
 use Rattle.step_plan.specs.declared.Told.{Told}
 use Rattle.step_plan.specs.declared.Told.TheVariants as Told
-use Rattle.step_outcome.specs.Carry.{Lent}
-use Rattle.step_outcome.specs.declared.Answer.{Answer}
+use Rattle.step_outcome.specs.Carry.{Lent, Answer}
 use Rattle.c_answers.specs.Answers.{no_cost, role_cost, change_cost}
 use Rattle.c_answers.specs.declared.Cost.{Cost}
 use Rattle.call_plans.specs.Calls.{Call}
@@ -65,16 +63,16 @@ tid_one told i j p q = ap tid_in (sym p ∙ q)
     tid_in (Told.Tid k) = k
     tid_in (Told.Fired role peer tid) = i
 
-borne_one : (b : Bearer) (m n : Name) → b ≡ Of m.role m.tid → b ≡ Of n.role n.tid → m.peer ≡ n.peer → m ≡ n
+borne_one : (b : Option (Role × ℕ)) (m n : Name) → b ≡ Some (m.role, m.tid) → b ≡ Some (n.role, n.tid) → m.peer ≡ n.peer → m ≡ n
 borne_one b m n j k p = same_parts m n (ap role_in (sym j ∙ k)) p (ap tid_in (sym j ∙ k))
   where
-    role_in : Bearer → Role
-    role_in Nobody = m.role
-    role_in (Of role tid) = role
+    role_in : Option (Role × ℕ) → Role
+    role_in None = m.role
+    role_in (Some (role, tid)) = role
 
-    tid_in : Bearer → ℕ
-    tid_in Nobody = m.tid
-    tid_in (Of role tid) = tid
+    tid_in : Option (Role × ℕ) → ℕ
+    tid_in None = m.tid
+    tid_in (Some (role, tid)) = tid
 
 means_one : (c : Call) (l : Lent) (a : Answer) (m n : Name) → MeantBy c l a m → MeantBy c l a n → m ≡ n
 means_one (Call.Request time peer class user_ack) l a m n (r, (p, t)) (s, (q, u)) = same_parts m n (r ∙ sym s) (p ∙ sym q) (tid_one (told_of_is a) m.tid n.tid t u)

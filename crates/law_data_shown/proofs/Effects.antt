@@ -6,6 +6,7 @@ use mathlib.Core.Bool.{Bool, true, false}
 use mathlib.Core.List.{List}
 use mathlib.Core.Logic.{◌⊎◌, inl, inr}
 use lib.ListN.{length}
+use Rattle.std.specs.Prelude.{Ok}
 use Rattle.base_layout.specs.Layout.{header_size, record_size, cell_size}
 use Rattle.base_lists.specs.Seq.{put, part}
 use Rattle.base_lists.proofs.StoresAndParts.{length_part}
@@ -16,8 +17,7 @@ use Rattle.table_layout.specs.Table.{count, record_at}
 use Rattle.step_commit.specs.declared.Change.TheVariants.{Nothing, Put, Clear}
 use Rattle.step_plan.specs.declared.Part.{Part}
 use Rattle.step_plan.specs.declared.Step.{Step}
-use Rattle.step_plan.specs.declared.Plan.{Plan}
-use Rattle.step_plan.specs.declared.Plan.TheVariants.{Go}
+use Rattle.step_plan.specs.Steps.{Plan}
 use Rattle.step_outcome.specs.Carry.{Lent, Done, CellFits, cell_written, table_then, store_then, carried_out, outcome}
 use Rattle.law_steps_sound.specs.Sound.{Fits, Sound}
 use Rattle.law_plans_sound.specs.Plans.{PlanSound, OutsideMessage, RestUnchanged}
@@ -62,7 +62,7 @@ module _ (l : Lent) (step : Step) (f : Fits l) (small : step.message.len ≤ cel
   same_size : length (store_then l step) ≡ length l.store
   unfolding carried_out outcome PlanSound
   same_size =
-      (still_fits l (Go step) f ok).cells
+      (still_fits l (Ok step) f ok).cells
       ∙ (ap (λ (n : ℕ). (n - header_size) / record_size * cell_size) kept.table.same_length ∙ sym f.cells)
 
   outside : (j n k : ℕ) → (j < step.changes.place) ⊎ (step.changes.place < j) → n ≤ cell_size → j * cell_size ≤ k → k < j * cell_size + n → OutsideMessage step k
@@ -108,9 +108,9 @@ pub done_is : (e : Entry) → Promise e → (q : Plan) → plan_for e.call e.len
 unfolding promised
 done_is e p q is = p.keeps ∙ ap (outcome e.lent) is
 
-pub effect : (e : Entry) → Promise e → (step : Step) → plan_for e.call e.lent ≡ Go step → Effect e step
+pub effect : (e : Entry) → Promise e → (step : Step) → plan_for e.call e.lent ≡ Ok step → Effect e step
 unfolding outcome PlanSound
 effect e p step is =
     let a : Accepted e.call e.lent step = call_ways e.call e.lent step is in
-    let s : PlanSound e.lent (Go step) = rw is at (call_sound e.call e.lent p.lends) in
-    record { accepted = a; left = rw (done_is e p (Go step) is) (left_by e.lent step a.fits a.small s) }
+    let s : PlanSound e.lent (Ok step) = rw is at (call_sound e.call e.lent p.lends) in
+    record { accepted = a; left = rw (done_is e p (Ok step) is) (left_by e.lent step a.fits a.small s) }

@@ -7,6 +7,7 @@ use mathlib.Core.Bool.{Bool, true, false}
 use mathlib.Core.List.{List, ◌∷◌}
 use mathlib.Core.Logic.{◌⊎◌, inl, inr}
 use lib.Dec.{ltb, eqb}
+use Rattle.std.specs.Prelude.{Option, None, Ok, Err}
 use Rattle.base_layout.specs.Layout.{cell_size}
 use Rattle.base_lists.specs.Seq.{part}
 use Rattle.base_lists.proofs.StoresAndParts.{true_false}
@@ -27,18 +28,15 @@ use Rattle.row_choice.specs.Rows.{requested_of}
 use Rattle.step_arrivals.specs.Arrivals.{arrived_of}
 use Rattle.row_turns.specs.declared.Given.{Given}
 use Rattle.row_turns.specs.declared.Turn.{Turn}
-use Rattle.step_commit.specs.declared.GenTidChange.{GenTidChange}
-use Rattle.step_commit.specs.declared.GenTidChange.TheVariants.{Unchanged}
+use Rattle.step_commit.specs.declared.GenTid.{GenTid}
 use Rattle.step_changes.specs.Changes.{change_of, turn_changes}
 use Rattle.step_opening.specs.Opens.{opened_turn, opening_changes, opening_step}
 use Rattle.step_live.specs.Turning.{live_turn, live_step}
-use Rattle.step_plan.specs.Steps.{step_of, idle_changes, idle_step}
+use Rattle.step_plan.specs.Steps.{step_of, idle_changes, idle_step, Plan}
 use Rattle.step_plan.specs.declared.Part.{Part}
 use Rattle.step_plan.specs.declared.Holder.{Holder}
 use Rattle.step_plan.specs.declared.Call.{Call as Asked}
 use Rattle.step_plan.specs.declared.Step.{Step}
-use Rattle.step_plan.specs.declared.Plan.{Plan}
-use Rattle.step_plan.specs.declared.Plan.TheVariants.{Refuse, Go}
 use Rattle.call_request.specs.Requests.{requester, counted_by, request_given, request_call, request_step}
 use Rattle.call_request.specs.declared.Request.{Request}
 use Rattle.call_receive.specs.Receives.{user_part, kept_part, arriver_of, opened_given, opened_call, opened_step, arrival_opening, unmatched_step}
@@ -146,7 +144,7 @@ module _ (start : Start) (e : Entry) (h : List Entry) (was : CellsHold start (be
             still_holds place turn.cell left.inside (rw there s) (unwritten_cell place (left.unwritten s.unwritten)) w
 
   -- an opening's turn; where it leads to TIDOK WAIT is said apart
-  module _ (opening : Opening) (holder : Holder) (g : Given) (gen_tid : GenTidChange) (c : Asked) (left : Left e.lent (opening_step (before e) opening holder g gen_tid c) e.done) where
+  module _ (opening : Opening) (holder : Holder) (g : Given) (gen_tid : Option GenTid) (c : Asked) (left : Left e.lent (opening_step (before e) opening holder g gen_tid c) e.done) where
     abbrev opened : Turn
     opened = opened_turn (before e) opening holder g
 
@@ -190,9 +188,9 @@ module _ (start : Start) (e : Entry) (h : List Entry) (was : CellsHold start (be
         let short : ltb cell_size p.len ≡ false = (arrival_fits _).short v in
         rw short refl
 
-    arrived_holds : Left e.lent (opening_step (before e) arrives arriver (opened_given time p) Unchanged (opened_call p)) e.done → Holds arriver.place
+    arrived_holds : Left e.lent (opening_step (before e) arrives arriver (opened_given time p) None (opened_call p)) e.done → Holds arriver.place
     unfolding opening_step step_of opening_changes arriver_of opened_given opened_call user_part
-    arrived_holds left = opening_holds arrives arriver (opened_given time p) Unchanged (opened_call p) left verified
+    arrived_holds left = opening_holds arrives arriver (opened_given time p) None (opened_call p) left verified
       where
         verified : Verifies arrives (opened_turn (before e) arrives arriver (opened_given time p)) (opened_given time p).len
             → 1 ≤ state_number (opened_turn (before e) arrives arriver (opened_given time p)).after.state → Holds arriver.place
@@ -233,7 +231,7 @@ unfolding outcome
 still_held start e p h was = go (plan_for e.call e.lent) refl
   where
     go : (q : Plan) → plan_for e.call e.lent ≡ q → CellsHold start (after e) e.done.store (e ∷ h)
-    go (Refuse r) is =
-        let d = done_is e p (Refuse r) is in
+    go (Err r) is =
+        let d = done_is e p (Err r) is in
         refused_holds start e h was (ap (λ (x : Done). x.table) d) (ap (λ (x : Done). x.store) d)
-    go (Go step) is = accepted_holds start e h was step (effect e p step is)
+    go (Ok step) is = accepted_holds start e h was step (effect e p step is)

@@ -10,10 +10,9 @@ use lib.Dec.{ltb, eqb}
 use Rattle.base_layout.specs.Layout.{datagram_bound}
 use Rattle.base_lists.specs.Seq.{pick}
 use Rattle.base_lists.proofs.StoresAndParts.{true_false}
-use Rattle.codec_items.specs.declared.Items.{Items}
+use Rattle.codec_items.specs.Items.{Verdict, Items}
 use Rattle.base_numbers.specs.declared.Malformed.TheVariants.{D1, D5}
-use Rattle.base_numbers.specs.declared.Verdict.{Verdict}
-use Rattle.base_numbers.specs.declared.Verdict.TheVariants.{Sound, Bad}
+use Rattle.std.specs.Prelude.{Ok, Err}
 use Rattle.codec_pdu.specs.Pdu.{sound_of, bare_of, blank_pdu}
 use Rattle.codec_pdu.specs.declared.Kind.{Kind}
 use Rattle.codec_pdu.specs.declared.Kind.TheVariants as Kind
@@ -70,8 +69,8 @@ module _ (s : List ℕ) (type : type_of s ≡ 1) where
   finishes h i k = go i.verdict
     where
       go : (v : Verdict) → Invokes (finish_by v s h i).kind
-      go (Bad d) = blank _ refl
-      go Sound = chosen (bare_of h.kind) _ _ (chosen (eqb (length s - i.end) 0) (whole h i 0 0) _ k (blank _ refl)) k
+      go (Err d) = blank _ refl
+      go (Ok tt) = chosen (bare_of h.kind) _ _ (chosen (eqb (length s - i.end) 0) (whole h i 0 0) _ k (blank _ refl)) k
 
   after : (h : Head) → Invokes h.kind → Invokes (after_head s h).kind
   unfolding after_head

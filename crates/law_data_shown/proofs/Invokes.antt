@@ -6,6 +6,7 @@ use mathlib.Core.Bool.{Bool, true, false}
 use mathlib.Core.List.{List, ◌∷◌}
 use mathlib.Core.Logic.{◌⊎◌, inl, inr}
 use lib.ListN.{length}
+use Rattle.std.specs.Prelude.{None, Some, Ok, Err}
 use Rattle.base_layout.specs.Layout.{cell_size}
 use Rattle.base_lists.specs.Seq.{part}
 use Rattle.base_lists.proofs.StoresAndParts.{true_false}
@@ -25,7 +26,6 @@ use Rattle.row_turns.specs.Turns.{turn_of, opening_turn}
 use Rattle.row_turns.specs.declared.Given.{Given}
 use Rattle.row_turns.specs.declared.Turn.{Turn}
 use Rattle.step_commit.specs.declared.Changes.{Changes}
-use Rattle.step_commit.specs.declared.GenTidChange.TheVariants.{Unchanged}
 use Rattle.step_opening.specs.Opens.{opened_turn, opening_step}
 use Rattle.step_live.specs.Turning.{holder_of, live_turn, live_step}
 use Rattle.step_shown.specs.Kinds.{by_kind}
@@ -36,12 +36,10 @@ use Rattle.step_shown.specs.declared.Place.{Place}
 use Rattle.step_shown.specs.declared.Shown.{Shown}
 use Rattle.step_shown.specs.declared.Shown.TheVariants as Shown
 use Rattle.step_shown.proofs.Data.{data_part}
-use Rattle.step_plan.specs.Steps.{cell_of, place_in, context_of, step_of, idle_step}
+use Rattle.step_plan.specs.Steps.{cell_of, place_in, context_of, step_of, idle_step, Plan}
 use Rattle.step_plan.specs.declared.Holder.{Holder}
 use Rattle.step_plan.specs.declared.Call.{Call as Asked}
 use Rattle.step_plan.specs.declared.Step.{Step}
-use Rattle.step_plan.specs.declared.Plan.{Plan}
-use Rattle.step_plan.specs.declared.Plan.TheVariants.{Refuse, Go}
 use Rattle.call_request.specs.Requests.{requester, request_given, request_call, request_step}
 use Rattle.call_request.specs.declared.Request.{Request}
 use Rattle.call_receive.specs.Receives.{user_part, arriver_of, opened_given, opened_call, opened_step, arrival_opening, unmatched_step}
@@ -52,7 +50,6 @@ use Rattle.call_plans.specs.Calls.{Call, plan_for}
 use Rattle.law_history.specs.Tally.{lives}
 use Rattle.table_record.specs.Record.{class_of, state_number}
 use Rattle.table_record.specs.declared.Role.TheVariants.{Responder}
-use Rattle.step_arrivals.specs.declared.Name.TheVariants.{Of}
 use Rattle.law_history.specs.Trace.{Entry, Promise}
 use Rattle.law_history.specs.Moves.{before}
 use Rattle.law_history.specs.Start.{Start}
@@ -176,7 +173,7 @@ module _ (peer tid class : ℕ) (up : Bool) (place : Place) where
       opened = turn e time from called u
 
       abbrev arrived : Step
-      arrived = opening_step (before e) arrives arriver (opened_given time p) Unchanged (opened_call p)
+      arrived = opening_step (before e) arrives arriver (opened_given time p) None (opened_call p)
 
       its_shown : StepShows arrived invoke → InvokeOf opened arriver (opened_call p)
       unfolding opening_step
@@ -217,7 +214,7 @@ module _ (peer tid class : ℕ) (up : Bool) (place : Place) where
             opened = rw (x.peer_is, x.tid_is) at (opener_is e h from u.tid o.opens_is);
             time = time;
             received = called ∙ ap (Call.Receive time) x.peer_is;
-            names = names_it e time from called u k ∙ ap (Of Responder) x.tid_is;
+            names = names_it e time from called u k ∙ ap (λ (n : ℕ). Some (Responder, n)) x.tid_is;
             invoke = rw (x.class_is, x.up_is) at k.invoke;
             exact = at_pdu x;
           })
@@ -237,7 +234,7 @@ module _ (peer tid class : ℕ) (up : Bool) (place : Place) where
           built k = record {
             time = time;
             received = called ∙ ap (Call.Receive time) x.peer_is;
-            names = names_it e time from called u k ∙ ap (Of Responder) x.tid_is;
+            names = names_it e time from called u k ∙ ap (λ (n : ℕ). Some (Responder, n)) x.tid_is;
             invoke = rw (x.class_is ∙ zero, x.up_is) at k.invoke;
             none_lives = rw (x.peer_is, x.tid_is) at (lived_not e time from called u k);
             exact = at_pdu x;
@@ -271,8 +268,8 @@ module _ (e : Entry) (p : Promise e) (peer tid class : ℕ) (up : Bool) (place :
   accepted {A = A} then = go (plan_for e.call e.lent) refl
     where
       go : (q : Plan) → plan_for e.call e.lent ≡ q → A
-      go (Refuse r) is = absurd (shows_as_holds (Shown.Invoke peer tid class up place) (done_is e p (Refuse r) is) s)
-      go (Go step) is = then step (effect e p step is) (shows_as_holds (Shown.Invoke peer tid class up place) (done_is e p (Go step) is) s)
+      go (Err r) is = absurd (shows_as_holds (Shown.Invoke peer tid class up place) (done_is e p (Err r) is) s)
+      go (Ok step) is = then step (effect e p step is) (shows_as_holds (Shown.Invoke peer tid class up place) (done_is e p (Ok step) is) s)
 
 pub invoke_exact : (start : Start) (e : Entry) → Promise e → (h : List Entry) → CellsHold start (before e) e.lent.store h → InvokeExact start e h
 invoke_exact start e p h was peer tid class up place s big =

@@ -4,11 +4,10 @@ use mathlib.Core.Path.{◌≡◌, refl}
 use mathlib.Core.Bool.{Bool, true, false}
 use mathlib.Core.List.{List, ◌∷◌}
 use mathlib.Core.Logic.{inl, inr}
+use Rattle.std.specs.Prelude.{Option, Some, None, is_some}
 use Rattle.table_record.specs.declared.Role.TheVariants.{Responder}
 use Rattle.table_layout.specs.Table.{count, record_at}
-use Rattle.table_finding.specs.Finding.{is_found, named_of}
-use Rattle.table_finding.specs.declared.Found.{Found}
-use Rattle.table_finding.specs.declared.Found.TheVariants as Found
+use Rattle.table_finding.specs.Finding.{named_of}
 use Rattle.table_finding.specs.Searched.{Called, NoneOf}
 use Rattle.table_finding.proofs.Searches.{named_found, named_nothing}
 use Rattle.law_history.specs.Trace.{Entry}
@@ -21,19 +20,19 @@ module _ (t : List ℕ) (peer tid : ℕ) where
   pub called_lives : (i : ℕ) → i < count t → Called Responder peer tid (record_at t i) → lives t (responder peer tid) ≡ true
   called_lives i inside called = go (named_of t (count t) Responder peer tid) refl
     where
-      go : (f : Found) → named_of t (count t) Responder peer tid ≡ f → is_found f ≡ true
-      go (Found.At j) e = refl
-      go Found.Nothing e = absurd (named_nothing t (count t) Responder peer tid e i inside called)
+      go : (f : Option ℕ) → named_of t (count t) Responder peer tid ≡ f → is_some f ≡ true
+      go (Some j) e = refl
+      go None e = absurd (named_nothing t (count t) Responder peer tid e i inside called)
 
   -- where none is so called, none is found
   pub none_lives : NoneOf (Called Responder peer tid) t (count t) → lives t (responder peer tid) ≡ false
   none_lives none = go (named_of t (count t) Responder peer tid) refl
     where
-      go : (f : Found) → named_of t (count t) Responder peer tid ≡ f → is_found f ≡ false
-      go (Found.At j) e =
+      go : (f : Option ℕ) → named_of t (count t) Responder peer tid ≡ f → is_some f ≡ false
+      go (Some j) e =
           let l = named_found t (count t) Responder peer tid j e in
           absurd (none j l.below l.is_so)
-      go Found.Nothing e = refl
+      go None e = refl
 
 module _ (e : Entry) (peer tid : ℕ) where
   -- a name that lived before isn't opened

@@ -8,6 +8,7 @@ use mathlib.Core.List.{List}
 use mathlib.Core.Logic.{◌⊎◌, inl, inr}
 use lib.ListN.{length}
 use lib.Dec.{ltb, eqb}
+use Rattle.std.specs.Prelude.{Option, None, Some}
 use Rattle.base_layout.specs.Layout.{tid_count}
 use Rattle.base_lists.specs.Seq.{pick}
 use Rattle.base_lists.proofs.StoresAndParts.{true_false}
@@ -25,15 +26,13 @@ use Rattle.row_events.specs.declared.Opening.TheVariants as Opening
 use Rattle.row_choice.specs.Rows.{requested_of, opening_of, invoke0_of, by_class, invoke12_of}
 use Rattle.row_choice.specs.declared.Arrived.{Arrived as Tests}
 use Rattle.step_arrivals.specs.Arrivals.{tid_of, name_of, invokes_us, arrived_of}
-use Rattle.step_arrivals.specs.declared.Name.TheVariants.{Of}
 use Rattle.step_arrivals.proofs.Names.{invoke_names_responder}
 use Rattle.row_turns.specs.Turns.{new_record}
 use Rattle.row_turns.specs.declared.Given.{Given}
 use Rattle.row_turns.specs.declared.Turn.{Turn}
 use Rattle.step_commit.specs.declared.Change.{Change}
 use Rattle.step_commit.specs.declared.Change.TheVariants as Change
-use Rattle.step_commit.specs.declared.GenTidChange.{GenTidChange}
-use Rattle.step_commit.specs.declared.GenTidChange.TheVariants.{Unchanged}
+use Rattle.step_commit.specs.declared.GenTid.{GenTid}
 use Rattle.step_changes.specs.Changes.{change_of}
 use Rattle.step_opening.specs.Opens.{place_for, opened_turn, opening_changes, opening_step}
 use Rattle.step_plan.specs.Steps.{step_of}
@@ -138,7 +137,7 @@ requested_one P a b c class = picked P (eqb class 0) _ _ (λ e. a) (λ e. picked
 
 -- ---- the change of an opening
 
-module _ (t : List ℕ) (opening : Opening) (h : Holder) (g : Given) (gen_tid : GenTidChange) (c : Asked) where
+module _ (t : List ℕ) (opening : Opening) (h : Holder) (g : Given) (gen_tid : Option GenTid) (c : Asked) where
   abbrev opened : Record
   opened = (opened_turn t opening h g).after
 
@@ -215,7 +214,7 @@ module _ (e : Entry) (time peer : ℕ) (called : e.call ≡ Call.Receive time pe
       }
 
   -- the PDU names the responder's TID
-  pub names_it : Invoking → name_of e.lent.given ≡ Of Responder u.tid
+  pub names_it : Invoking → name_of e.lent.given ≡ Some (Responder, u.tid)
   names_it k = rw k.responder_is at u.names
 
   none_before : Invoking → NoneOf (Called Responder peer u.tid) t (count t)
@@ -231,13 +230,13 @@ module _ (e : Entry) (time peer : ℕ) (called : e.call ≡ Call.Receive time pe
   pub some_opened : 1 ≤ state_number turn.after.state → 1 ≤ opens_class opening
   some_opened live = rw of_opening at (class_some turn.after.state live)
 
-  module _ (left : Left e.lent (opening_step t opening holder (opened_given time p) Unchanged (opened_call p)) e.done) (live : 1 ≤ state_number turn.after.state) where
+  module _ (left : Left e.lent (opening_step t opening holder (opened_given time p) None (opened_call p)) e.done) (live : 1 ≤ state_number turn.after.state) where
     abbrev place : ℕ
     place = place_for (free_of t (count t))
 
     there_is : record_at e.done.table place ≡ turn.after
     unfolding opening_step step_of opening_changes arriver_of
-    there_is = left.put_is turn.after (opening_puts t opening holder (opened_given time p) Unchanged (opened_call p) (live_tested turn.after.state live))
+    there_is = left.put_is turn.after (opening_puts t opening holder (opened_given time p) None (opened_call p) (live_tested turn.after.state live))
 
     inside : place < count e.done.table
     unfolding opening_step step_of opening_changes arriver_of
@@ -271,7 +270,7 @@ module _ (e : Entry) (time peer : ℕ) (called : e.call ≡ Call.Receive time pe
       time = time;
       received = called ∙ ap (Call.Receive time) (sym named.peer);
       role = named.role ∙ responds_so;
-      names = names_it its_invoke ∙ ap (Of Responder) (sym named.tid);
+      names = names_it its_invoke ∙ ap (λ (n : ℕ). Some (Responder, n)) (sym named.tid);
       invoke = rw (of_opening ∙ its_invoke.of_class some_class, same_ack) its_invoke.invoke;
     }
 

@@ -6,10 +6,10 @@ use mathlib.Core.List.{List}
 use mathlib.Core.Logic.{◌⊎◌, inl, inr}
 use borrow.Author.Tests.{eqb-true}
 use lib.Dec.{eqb}
+use Rattle.std.specs.Prelude.{Option, Some, Ok, Err}
 use Rattle.base_lists.proofs.StoresAndParts.{true_false}
 use Rattle.table_record.specs.Record.{role_of, state_number, state_of}
 use Rattle.table_record.specs.declared.Role.TheVariants.{Initiator}
-use Rattle.step_arrivals.specs.declared.Name.TheVariants.{Of}
 use Rattle.table_record.specs.declared.State.{State}
 use Rattle.table_record.specs.declared.State.TheVariants.{IResultWait2}
 use Rattle.table_record.proofs.Back.{state_back}
@@ -18,7 +18,7 @@ use Rattle.codec_reading.specs.Read.{pdu_of}
 use Rattle.table_layout.specs.Table.{record_at}
 use Rattle.row_events.specs.declared.Opening.{Opening}
 use Rattle.row_turns.specs.declared.Given.{Given}
-use Rattle.step_commit.specs.declared.GenTidChange.{GenTidChange}
+use Rattle.step_commit.specs.declared.GenTid.{GenTid}
 use Rattle.law_rows.specs.Shown.{takes_result}
 use Rattle.step_shown.specs.Parts.{data_of}
 use Rattle.step_shown.specs.declared.Source.TheVariants.{Datagram}
@@ -26,12 +26,10 @@ use Rattle.step_shown.specs.declared.Place.{Place}
 use Rattle.step_shown.specs.declared.Shown.{Shown}
 use Rattle.step_shown.specs.declared.Shown.TheVariants as Shown
 use Rattle.step_shown.proofs.Data.{data_part}
-use Rattle.step_plan.specs.Steps.{place_in, context_of, step_of, idle_step}
+use Rattle.step_plan.specs.Steps.{place_in, context_of, step_of, idle_step, Plan}
 use Rattle.step_plan.specs.declared.Call.{Call as Asked}
 use Rattle.step_plan.specs.declared.Holder.{Holder}
 use Rattle.step_plan.specs.declared.Step.{Step}
-use Rattle.step_plan.specs.declared.Plan.{Plan}
-use Rattle.step_plan.specs.declared.Plan.TheVariants.{Refuse, Go}
 use Rattle.step_live.specs.Turning.{holder_of, live_step}
 use Rattle.step_opening.specs.Opens.{opening_step}
 use Rattle.call_request.specs.Requests.{request_step}
@@ -85,7 +83,7 @@ module _ (peer tid : ℕ) (place : Place) where
   none_shown : (step : Step) → (step_aborts step || step_results_is step) ≡ false → StepShows step result → ⊥
   none_shown step n e = true_false (sym (or_second (step_aborts step) (step_results_is step) (results step e)) ∙ n)
 
-  opening_none : (t : List ℕ) (opening : Opening) (h : Holder) (g : Given) (gen_tid : GenTidChange) (c : Asked) → StepShows (opening_step t opening h g gen_tid c) result → ⊥
+  opening_none : (t : List ℕ) (opening : Opening) (h : Holder) (g : Given) (gen_tid : Option GenTid) (c : Asked) → StepShows (opening_step t opening h g gen_tid c) result → ⊥
   opening_none t opening h g gen_tid c s = none_shown (opening_step t opening h g gen_tid c) (opening_neither t opening h g gen_tid c) s
 
   state_is : (s : State) → eqb (state_number s) (state_number IResultWait2) ≡ true → s ≡ IResultWait2
@@ -124,7 +122,7 @@ module _ (peer tid : ℕ) (place : Place) where
             waited = both.0;
             peer_is = x.peer_is;
             tid_is = x.tid_is;
-            names = a.name_is ∙ (ap (λ (s : State). Of (role_of s) waiting.tid) both.0 ∙ ap (Of Initiator) x.tid_is);
+            names = a.name_is ∙ (ap (λ (s : State). Some (role_of s, waiting.tid)) both.0 ∙ ap (λ (n : ℕ). Some (Initiator, n)) x.tid_is);
             exact = ap (data_of e.lent.given e.done.store) at ∙ user_shown e.lent.given e.done.store;
           }
 
@@ -153,5 +151,5 @@ unfolding outcome carried_out
 result_exact e p h peer tid place s = go (plan_for e.call e.lent) refl
   where
     go : (q : Plan) → plan_for e.call e.lent ≡ q → ResultTaken e peer tid place
-    go (Refuse r) is = absurd (shows_as_holds (Shown.Result peer tid place) (done_is e p (Refuse r) is) s)
-    go (Go step) is = by_way peer tid place e step (call_ways e.call e.lent step is).way (shows_as_holds (Shown.Result peer tid place) (done_is e p (Go step) is) s)
+    go (Err r) is = absurd (shows_as_holds (Shown.Result peer tid place) (done_is e p (Err r) is) s)
+    go (Ok step) is = by_way peer tid place e step (call_ways e.call e.lent step is).way (shows_as_holds (Shown.Result peer tid place) (done_is e p (Ok step) is) s)

@@ -7,6 +7,7 @@ use mathlib.Core.Bool.{true, false}
 use mathlib.Core.List.{List, [], ◌∷◌}
 use mathlib.Core.Logic.{inl, inr}
 use lib.Dec.{eqb}
+use Rattle.std.specs.Prelude.{Ok, Err}
 use Rattle.table_record.specs.Record.{role_of, state_number}
 use Rattle.table_record.specs.declared.Role.TheVariants.{Initiator, Responder}
 use Rattle.table_record.specs.declared.State.{State}
@@ -15,8 +16,7 @@ use Rattle.table_record_ok.specs.OneRecord.{Live}
 use Rattle.table_well_formed.specs.WellFormed.{WellFormed}
 use Rattle.step_shown.specs.declared.Shown.{Shown}
 use Rattle.step_shown.specs.declared.Shown.TheVariants as Shown
-use Rattle.step_outcome.specs.declared.Answer.{Answer}
-use Rattle.step_outcome.specs.declared.Answer.TheVariants.{Refused, Taken}
+use Rattle.step_outcome.specs.Carry.{Answer}
 use Rattle.law_counting.specs.Counting.{Counts, counts_in}
 use Rattle.law_history.specs.Trace.{Entry}
 use Rattle.law_history.specs.Tally.{Name, is_named, of_shown, of_answer, adds, opens, tally}
@@ -38,9 +38,9 @@ counts_on start (e ∷ h) n u =
 
 -- what an answer shows is counted
 shown_counts : (n : Name) (s : Shown) (a : Answer) → ShownIn a s → ((of_shown n s).results ≤ (of_answer n a).results) × ((of_shown n s).shows ≤ (of_answer n a).shows)
-shown_counts n s (Refused r) x = absurd x
-shown_counts n s (Taken sent told first second) (inl q) = rw (sym q) (omega arith, omega arith)
-shown_counts n s (Taken sent told first second) (inr q) = rw (sym q) (omega arith, omega arith)
+shown_counts n s (Err r) x = absurd x
+shown_counts n s (Ok a) (inl q) = rw (sym q) (omega arith, omega arith)
+shown_counts n s (Ok a) (inr q) = rw (sym q) (omega arith, omega arith)
 
 added : (e : Entry) (n : Name) → ((of_answer n e.done.answer).results ≤ (adds e n).results) × ((of_answer n e.done.answer).shows ≤ (adds e n).shows)
 unfolding adds

@@ -4,7 +4,7 @@ use mathlib.Core.Path.{◌≡◌, sym, ◌∙◌}
 use mathlib.Core.List.{List, []}
 use lib.ListN.{length, get_or}
 use Rattle.table_fresh.specs.Fresh.{fresh_answer, table_after_fresh}
-use Rattle.table_fresh.specs.declared.Fresh.TheVariants.{Made}
+use Rattle.std.specs.Prelude.{Ok}
 use Rattle.table_layout.specs.Table.{settings_of}
 use Rattle.table_well_formed.specs.WellFormed.{WellFormed}
 use Rattle.law_fresh_formed.specs.FreshOk.{FreshOk}
@@ -44,11 +44,11 @@ demand_3_from start max inv cells run =
     }
 
 -- from a table made fresh, with RCR_MAX its first setting
-pub demand_3_holds : (old settings : List ℕ) (first : ℕ) → fresh_answer (length old) settings first ≡ Made
-    → {s₀ t s : List ℕ} {h : List Entry} → Run (table_after_fresh Made old settings first) s₀ t s h → Demand3 fresh (get_or settings 0 0) t h
+pub demand_3_holds : (old settings : List ℕ) (first : ℕ) → fresh_answer (length old) settings first ≡ Ok tt
+    → {s₀ t s : List ℕ} {h : List Entry} → Run (table_after_fresh (Ok tt) old settings first) s₀ t s h → Demand3 fresh (get_or settings 0 0) t h
 demand_3_holds old settings first made {s₀} run =
-    let ok : FreshOk old (table_after_fresh Made old settings first) first = fresh_ok old settings first made in
-    demand_3_from fresh (get_or settings 0 0) (made_inv old settings first made) (cells_of_none fresh (table_after_fresh Made old settings first) s₀ ok.no_record) run
+    let ok : FreshOk old (table_after_fresh (Ok tt) old settings first) first = fresh_ok old settings first made in
+    demand_3_from fresh (get_or settings 0 0) (made_inv old settings first made) (cells_of_none fresh (table_after_fresh (Ok tt) old settings first) s₀ ok.no_record) run
 
 -- from any well-formed table, with its live records and what the store holds for them as the start: one that salvage left is such a table
 pub demand_3_salvaged : (t₀ s₀ : List ℕ) → WellFormed t₀ → {t s : List ℕ} {h : List Entry} → Run t₀ s₀ t s h → Demand3 (start_of t₀ s₀) (settings_of t₀).rcr_max t h

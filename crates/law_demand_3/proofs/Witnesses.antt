@@ -6,6 +6,7 @@ use mathlib.Core.Bool.{Bool, true, false}
 use mathlib.Core.List.{List, [], ◌∷◌}
 use mathlib.Core.Logic.{◌⊎◌, inl, inr}
 use lib.ListN.{length, get_or}
+use Rattle.std.specs.Prelude.{Ok, Err}
 use Rattle.base_layout.specs.Layout.{header_size, record_size, base}
 use Rattle.base_lists.specs.Seq.{pick}
 use Rattle.base_lists.proofs.StoresAndParts.{true_false}
@@ -15,8 +16,7 @@ use Rattle.table_layout.specs.Table.{record_at}
 use Rattle.law_formed_kept.proofs.InRecord.{equal_or}
 use Rattle.step_shown.specs.declared.Shown.{Shown}
 use Rattle.step_shown.specs.declared.Shown.TheVariants as Shown
-use Rattle.step_outcome.specs.declared.Answer.{Answer}
-use Rattle.step_outcome.specs.declared.Answer.TheVariants.{Refused, Taken}
+use Rattle.step_outcome.specs.Carry.{Answer}
 use Rattle.call_plans.specs.Calls.{Call, is_request, is_primitive}
 use Rattle.call_plans.specs.Concerns.{NamedBy, Concerns, fires}
 use Rattle.law_counting.specs.Counting.{Counts, none, plus, requested, aborted}
@@ -73,9 +73,9 @@ module _ (e : Entry) (h : List Entry) where
 
   -- what an answer shows is counted
   shown_counts : (n : Name) (s : Shown) (a : Answer) → ShownIn a s → ((of_shown n s).aborts ≤ (of_answer n a).aborts) × ((of_shown n s).confirms ≤ (of_answer n a).confirms)
-  shown_counts n s (Refused r) x = absurd x
-  shown_counts n s (Taken sent told first second) (inl q) = rw (sym q) (omega arith, omega arith)
-  shown_counts n s (Taken sent told first second) (inr q) = rw (sym q) (omega arith, omega arith)
+  shown_counts n s (Err r) x = absurd x
+  shown_counts n s (Ok a) (inl q) = rw (sym q) (omega arith, omega arith)
+  shown_counts n s (Ok a) (inr q) = rw (sym q) (omega arith, omega arith)
 
   added : (n : Name) → ((of_answer n e.done.answer).aborts ≤ (adds e n).aborts) × ((of_answer n e.done.answer).confirms ≤ (adds e n).confirms)
   unfolding adds

@@ -1,10 +1,9 @@
 -- Seven entries that each break a sentence of the letter: six as an audit wrote them down, and a refusal that changes something. No history has one.
-use Rattle.std.specs.Prelude.{ℕ, ◌+◌, ◌≤◌, ◌<◌, ◌≡◌, Bool, true, false, List, [], get_or}
+use Rattle.std.specs.Prelude.{ℕ, ◌+◌, ◌≤◌, ◌<◌, ◌≡◌, Bool, true, false, List, [], get_or, Some}
 use Rattle.base_layout.specs.Layout.{record_size, base}
 use Rattle.table_record.specs.declared.Role.TheVariants.{Initiator}
 use Rattle.table_layout.specs.Table.{record_at}
 use Rattle.step_arrivals.specs.Arrivals.{name_of}
-use Rattle.step_arrivals.specs.declared.Name.TheVariants.{Of}
 use Rattle.step_shown.specs.declared.Place.{Place}
 use Rattle.step_shown.specs.declared.Shown.TheVariants as Shown
 use Rattle.call_plans.specs.Calls.{Call}
@@ -57,7 +56,7 @@ pub record OthersResult (e : Entry) : Type 0 where
   pub tid : ℕ
   pub place : Place
   pub result : Shows e (Shown.Result peer tid place)
-  pub unnamed : name_of e.lent.given ≡ Of Initiator tid → ⊥
+  pub unnamed : name_of e.lent.given ≡ Some (Initiator, tid) → ⊥
 
 -- W5: a user's abort that is accepted and sends nothing
 pub record AbortUnsent (e : Entry) : Type 0 where

@@ -8,6 +8,7 @@ use mathlib.Core.List.{List}
 use mathlib.Core.Logic.{◌⊎◌, inl, inr}
 use lib.ListN.{length, get_or}
 use lib.Dec.{eqb}
+use Rattle.std.specs.Prelude.{Option, None, Ok, Err}
 use Rattle.base_layout.specs.Layout.{header_size, gen_tid_at, cell_size, peers}
 use Rattle.base_lists.proofs.StoresAndParts.{true_false}
 use Rattle.base_numbers.specs.declared.Refusal.{Refusal}
@@ -27,18 +28,13 @@ use Rattle.row_turns.specs.Turns.{new_record}
 use Rattle.row_turns.specs.declared.Given.{Given}
 use Rattle.step_commit.specs.Commit.{table_changed}
 use Rattle.step_commit.specs.declared.Change.TheVariants as Change
-use Rattle.step_commit.specs.declared.GenTidChange.{GenTidChange}
-use Rattle.step_commit.specs.declared.GenTidChange.TheVariants as GenTidChange
-use Rattle.step_commit.specs.declared.TidChange.{TidChange}
-use Rattle.step_commit.specs.declared.TidChange.TheVariants.{Unchanged}
+use Rattle.step_commit.specs.declared.GenTid.{GenTid}
 use Rattle.step_changes.specs.Changes.{turn_changes}
 use Rattle.step_plan.specs.Steps as Steps
-use Rattle.step_plan.specs.Steps.{step_of, idle_changes, idle_step}
+use Rattle.step_plan.specs.Steps.{step_of, idle_changes, idle_step, Plan}
 use Rattle.step_plan.specs.declared.Holder.{Holder}
 use Rattle.step_plan.specs.declared.Call.{Call as Asked}
 use Rattle.step_plan.specs.declared.Step.{Step}
-use Rattle.step_plan.specs.declared.Plan.{Plan}
-use Rattle.step_plan.specs.declared.Plan.TheVariants.{Refuse, Go}
 use Rattle.step_plan.specs.declared.Told.TheVariants as Told
 use Rattle.step_live.specs.Turning.{holder_of, live_step}
 use Rattle.step_opening.specs.Opens.{place_for, opened_turn, opening_changes, opening_step}
@@ -74,10 +70,10 @@ abbrev Records : Entry → Type 0
 Records e = NoneChanged e ⊎ ((place : ℕ) × OneChanged e place)
 
 -- a refusal
-refused_framed : (e : Entry) → Promise e → (r : Refusal) → plan_for e.call e.lent ≡ Refuse r → (h : List Entry) → CallFramed e h
+refused_framed : (e : Entry) → Promise e → (r : Refusal) → plan_for e.call e.lent ≡ Err r → (h : List Entry) → CallFramed e h
 unfolding outcome
 refused_framed e p r is h =
-    let d = done_is e p (Refuse r) is in
+    let d = done_is e p (Err r) is in
     let t : after e ≡ before e = ap (λ (x : Done). x.table) d in
     let s : e.done.store ≡ e.lent.store = ap (λ (x : Done). x.store) d in
     record {
@@ -87,7 +83,7 @@ refused_framed e p r is h =
       refused = λ n. (t, (s, ap (λ (x : Done). x.output) d));
     }
 
-module _ (e : Entry) (p : Promise e) (step : Step) (is : plan_for e.call e.lent ≡ Go step) where
+module _ (e : Entry) (p : Promise e) (step : Step) (is : plan_for e.call e.lent ≡ Ok step) where
   abbrev f : Effect e step
   f = effect e p step is
 
@@ -96,7 +92,7 @@ module _ (e : Entry) (p : Promise e) (step : Step) (is : plan_for e.call e.lent 
 
   carried : e.done ≡ carried_out e.lent step
   unfolding outcome
-  carried = done_is e p (Go step) is
+  carried = done_is e p (Ok step) is
 
   table_is : after e ≡ table_changed (before e) step.changes e.lent.exit
   unfolding carried_out table_then
@@ -132,20 +128,20 @@ module _ (e : Entry) (p : Promise e) (step : Step) (is : plan_for e.call e.lent 
   }
 
   -- the header, where the cached TID that changes is that of the call's peer
-  header_kept : (step.changes.cached ≡ Unchanged) ⊎ (step.changes.peer ≡ peer_of e.call e.done.answer) → HeaderKept e
+  header_kept : (step.changes.cached ≡ None) ⊎ (step.changes.peer ≡ peer_of e.call e.done.answer) → HeaderKept e
   header_kept peer k past inside gen cached =
       ap (λ (t : List ℕ). get_or t k 0) table_is
       ∙ header_octets k (before e) step.changes e.lent.exit sound.allowed.exit_fits sound.allowed.peer past inside (gen_tid gen) (of_peer peer)
     where
-      gen_tid : (is_request e.call ≡ false) ⊎ OutsideGenTid k → (step.changes.gen_tid ≡ GenTidChange.Unchanged) ⊎ OutsideGenTid k
+      gen_tid : (is_request e.call ≡ false) ⊎ OutsideGenTid k → (step.changes.gen_tid ≡ None) ⊎ OutsideGenTid k
       gen_tid (inl r) = inl (step_leaves e.call e.lent step r f.accepted.way)
       gen_tid (inr h) = inr h
 
-      of_peer : (step.changes.cached ≡ Unchanged) ⊎ (step.changes.peer ≡ peer_of e.call e.done.answer) → (step.changes.cached ≡ Unchanged) ⊎ OutsideCached step.changes.peer k
+      of_peer : (step.changes.cached ≡ None) ⊎ (step.changes.peer ≡ peer_of e.call e.done.answer) → (step.changes.cached ≡ None) ⊎ OutsideCached step.changes.peer k
       of_peer (inl c) = inl c
       of_peer (inr q) = inr (rw q cached)
 
-  framed : (step.changes.cached ≡ Unchanged) ⊎ (step.changes.peer ≡ peer_of e.call e.done.answer) → Records e → (h : List Entry) → CallFramed e h
+  framed : (step.changes.cached ≡ None) ⊎ (step.changes.peer ≡ peer_of e.call e.done.answer) → Records e → (h : List Entry) → CallFramed e h
   framed peer records h = record { lengths = (f.left.same_length, f.left.same_store); header = header_kept peer; records = records; refused = λ n. true_false (sym taken ∙ n) }
 
   -- the call only stores its time
@@ -177,7 +173,7 @@ module _ (e : Entry) (p : Promise e) (step : Step) (is : plan_for e.call e.lent 
     lived_framed = framed (inr lived_peer) (inr (k.place, one_changed k.place (rw k.step_is refl) (inl named)))
 
   -- an opening: no record is left, or one at its place
-  module _ (opening : Opening) (holder : Holder) (g : Given) (gen_tid : GenTidChange) (c : Asked) (eq : step ≡ opening_step (before e) opening holder g gen_tid c) where
+  module _ (opening : Opening) (holder : Holder) (g : Given) (gen_tid : Option GenTid) (c : Asked) (eq : step ≡ opening_step (before e) opening holder g gen_tid c) where
     abbrev opened : Record
     opened = (opened_turn (before e) opening holder g).after
 
@@ -266,7 +262,7 @@ module _ (e : Entry) (p : Promise e) (step : Step) (is : plan_for e.call e.lent 
     abbrev arriver : Holder
     arriver = arriver_of (place_for (free_of t (count t))) a.unmatched.role a.peer a.unmatched.tid (pdu_of e.lent.given).kind
 
-    step_is : step ≡ opening_step t arrives arriver (opened_given a.time (pdu_of e.lent.given)) GenTidChange.Unchanged (opened_call (pdu_of e.lent.given))
+    step_is : step ≡ opening_step t arrives arriver (opened_given a.time (pdu_of e.lent.given)) None (opened_call (pdu_of e.lent.given))
     unfolding unmatched_step opened_step
     step_is = a.step_is
 
@@ -290,7 +286,7 @@ module _ (e : Entry) (p : Promise e) (step : Step) (is : plan_for e.call e.lent 
 
     arrived_framed : (h : List Entry) → CallFramed e h
     unfolding arriver_of
-    arrived_framed = framed (inr arrived_peer) (opening_records arrives arriver (opened_given a.time (pdu_of e.lent.given)) GenTidChange.Unchanged (opened_call (pdu_of e.lent.given)) step_is opened_by)
+    arrived_framed = framed (inr arrived_peer) (opening_records arrives arriver (opened_given a.time (pdu_of e.lent.given)) None (opened_call (pdu_of e.lent.given)) step_is opened_by)
 
   accepted_framed : Way e.call e.lent step → (h : List Entry) → CallFramed e h
   accepted_framed (inl i) = idle_framed i
@@ -302,5 +298,5 @@ pub call_framed : (e : Entry) → Promise e → (h : List Entry) → CallFramed 
 call_framed e p h = go (plan_for e.call e.lent) refl
   where
     go : (q : Plan) → plan_for e.call e.lent ≡ q → CallFramed e h
-    go (Refuse r) is = refused_framed e p r is h
-    go (Go step) is = accepted_framed e p step is (effect e p step is).accepted.way h
+    go (Err r) is = refused_framed e p r is h
+    go (Ok step) is = accepted_framed e p step is (effect e p step is).accepted.way h

@@ -6,6 +6,7 @@ use mathlib.Core.Bool.{Bool, true, false}
 use mathlib.Core.List.{List, [], ◌∷◌}
 use mathlib.Core.Logic.{◌⊎◌, inl, inr}
 use lib.ListN.{length, get_or, replicate, length-replicate}
+use Rattle.std.specs.Prelude.{Option, Some, None}
 use Rattle.base_layout.specs.Layout.{header_size, record_size, gen_tid_at, tidnew_due_at, cached_at, base, exit_base, peers, exit_bound}
 use Rattle.base_lists.specs.Seq.{bit, put}
 use Rattle.base_lists.proofs.StoresAndParts.{lt_or_le}
@@ -18,10 +19,7 @@ use Rattle.table_layout.proofs.Apart.{octet_apart}
 use Rattle.step_commit.specs.Commit.{record_changed, exit_stored, gen_tid_changed, cache_changed, table_changed}
 use Rattle.step_commit.specs.declared.Change.{Change}
 use Rattle.step_commit.specs.declared.Change.TheVariants.{Nothing, Put, Clear}
-use Rattle.step_commit.specs.declared.GenTidChange.{GenTidChange}
-use Rattle.step_commit.specs.declared.GenTidChange.TheVariants as GenTidChange
-use Rattle.step_commit.specs.declared.TidChange.{TidChange}
-use Rattle.step_commit.specs.declared.TidChange.TheVariants.{Unchanged, Set}
+use Rattle.step_commit.specs.declared.GenTid.{GenTid}
 use Rattle.step_commit.specs.declared.Changes.{Changes}
 use Rattle.law_history.specs.Changed.{OutsideRecord, OutsideCached, OutsideGenTid}
 
@@ -33,12 +31,12 @@ module _ (k : ℕ) where
   unfolding put_clock
   clock_same t v h = octet_apart t 0 (enc 8 v) k (inr (omega (arith, length_enc 8 v)))
 
-  cached_same : (t : List ℕ) (peer : ℕ) (c : TidChange) → (c ≡ Unchanged) ⊎ OutsideCached peer k → Same t (cache_changed t peer c)
+  cached_same : (t : List ℕ) (peer : ℕ) (c : Option ℕ) → (c ≡ None) ⊎ OutsideCached peer k → Same t (cache_changed t peer c)
   unfolding cache_changed put_cached
   cached_same t peer c (inl e) = rw e refl
-  cached_same t peer Unchanged (inr o) = refl
-  cached_same t peer (Set v) (inr (inl h)) = octet_apart t (cached_at + peer * 2) (enc 2 v) k (inl (omega arith))
-  cached_same t peer (Set v) (inr (inr h)) = octet_apart t (cached_at + peer * 2) (enc 2 v) k (inr (omega (arith, length_enc 2 v)))
+  cached_same t peer None (inr o) = refl
+  cached_same t peer (Some v) (inr (inl h)) = octet_apart t (cached_at + peer * 2) (enc 2 v) k (inl (omega arith))
+  cached_same t peer (Some v) (inr (inr h)) = octet_apart t (cached_at + peer * 2) (enc 2 v) k (inr (omega (arith, length_enc 2 v)))
 
   -- past the header lies neither
   past_gen_tid : header_size ≤ k → OutsideGenTid k
@@ -48,13 +46,13 @@ module _ (k : ℕ) where
   off_due d (inl h) = inl (omega arith)
   off_due d (inr h) = inr (omega (arith, d))
 
-  gen_tid_same : (t : List ℕ) (c : GenTidChange) → (c ≡ GenTidChange.Unchanged) ⊎ OutsideGenTid k → Same t (gen_tid_changed t c)
+  gen_tid_same : (t : List ℕ) (c : Option GenTid) → (c ≡ None) ⊎ OutsideGenTid k → Same t (gen_tid_changed t c)
   unfolding gen_tid_changed put_gen_tid put_tidnew_due
   gen_tid_same t c (inl e) = rw e refl
-  gen_tid_same t GenTidChange.Unchanged (inr h) = refl
-  gen_tid_same t (GenTidChange.Set v due) (inr h) =
-      octet_apart (put t 8 (enc 2 v)) tidnew_due_at (bit due ∷ []) k (off_due h.1 (lt_or_le k tidnew_due_at))
-      ∙ octet_apart t 8 (enc 2 v) k (inr (omega (arith, h.0, length_enc 2 v)))
+  gen_tid_same t None (inr h) = refl
+  gen_tid_same t (Some g) (inr h) =
+      octet_apart (put t 8 (enc 2 g.tid)) tidnew_due_at (bit g.tidnew_due ∷ []) k (off_due h.1 (lt_or_le k tidnew_due_at))
+      ∙ octet_apart t 8 (enc 2 g.tid) k (inr (omega (arith, h.0, length_enc 2 g.tid)))
 
   -- a store within a record is apart from what lies outside it
   off : (place start n : ℕ) → base place ≤ start → start + n ≤ base place + record_size → OutsideRecord place k → Apart k 1 start n
@@ -92,7 +90,7 @@ module _ (k : ℕ) where
         ∙ (gen_tid_same _ c.gen_tid (inr (past_gen_tid past)) ∙ rw (none, unstored) refl))
 
     -- in the header
-    pub header_octets : gen_tid_at ≤ k → k < header_size → (c.gen_tid ≡ GenTidChange.Unchanged) ⊎ OutsideGenTid k → (c.cached ≡ Unchanged) ⊎ OutsideCached c.peer k → Same t (table_changed t c exit)
+    pub header_octets : gen_tid_at ≤ k → k < header_size → (c.gen_tid ≡ None) ⊎ OutsideGenTid k → (c.cached ≡ None) ⊎ OutsideCached c.peer k → Same t (table_changed t c exit)
     unfolding table_changed
     header_octets past inside gen cached =
         clock_same _ c.time past

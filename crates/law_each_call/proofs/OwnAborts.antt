@@ -5,6 +5,7 @@ use mathlib.Core.Path.{◌≡◌, refl, sym, ap, subst, ◌∙◌}
 use mathlib.Core.Bool.{true, false}
 use mathlib.Core.List.{List}
 use mathlib.Core.Logic.{inl, inr}
+use Rattle.std.specs.Prelude.{Ok, Err}
 use Rattle.base_layout.specs.Layout.{tid_bound}
 use Rattle.base_lists.proofs.StoresAndParts.{true_false}
 use Rattle.table_record.specs.Record.{role_of, send_tid}
@@ -24,14 +25,11 @@ use Rattle.law_counting.proofs.Aborts.{user_aborts, UserAborts, user_abort_turn}
 use Rattle.step_sending.specs.Octets.{with_tid, octets_sent}
 use Rattle.step_sending.specs.Sending as Sending
 use Rattle.step_sending.specs.declared.Sender.{Sender}
-use Rattle.step_plan.specs.Steps.{sender_of, step_of}
+use Rattle.step_plan.specs.Steps.{sender_of, step_of, Plan}
 use Rattle.step_plan.specs.declared.Holder.{Holder}
 use Rattle.step_plan.specs.declared.Step.{Step}
-use Rattle.step_plan.specs.declared.Plan.{Plan}
-use Rattle.step_plan.specs.declared.Plan.TheVariants.{Refuse, Go}
 use Rattle.step_live.specs.Turning.{row_at, holder_of, live_turn, live_step}
-use Rattle.step_outcome.specs.Carry.{Lent, Done, octets_out, sent_then, carried_out, outcome}
-use Rattle.step_outcome.specs.declared.Answer.{Answer}
+use Rattle.step_outcome.specs.Carry.{Lent, Done, octets_out, sent_then, carried_out, outcome, Answer}
 use Rattle.call_plans.specs.Calls.{Call, plan_for, Lends, is_request, is_primitive}
 use Rattle.call_plans.specs.Concerns.{NamedBy, Concerns, Comes}
 use Rattle.law_steps_sound.specs.Sound.{Sound}
@@ -116,10 +114,10 @@ unfolding outcome
 own_aborts e p h time role peer tid reason is taken = go (plan_for e.call e.lent) refl
   where
     go : (q : Plan) → plan_for e.call e.lent ≡ q → OwnAbort e role peer tid reason
-    go (Refuse r) g = true_false (sym taken ∙ ap (λ (d : Done). accepted d.answer) (done_is e p (Refuse r) g))
-    go (Go step) g =
+    go (Err r) g = true_false (sym taken ∙ ap (λ (d : Done). accepted d.answer) (done_is e p (Err r) g))
+    go (Ok step) g =
         let c : Call = Call.Abort time role peer tid reason in
         let a : Accepted c e.lent step = subst (λ (x : Call). Accepted x e.lent step) is (call_ways e.call e.lent step g) in
         let ok : Sound e.lent step = way_sound c e.lent step (subst (λ (x : Call). Lends x e.lent) is p.lends) a in
         subst (λ (x : Call). OwnAbort (record { call = x; lent = e.lent; done = e.done }) role peer tid reason) (sym is)
-        (subst (λ (d : Done). OwnAbort (record { call = c; lent = e.lent; done = d }) role peer tid reason) (sym (done_is e p (Go step) g)) (by_way e.lent time role peer tid reason step a ok a.way))
+        (subst (λ (d : Done). OwnAbort (record { call = c; lent = e.lent; done = d }) role peer tid reason) (sym (done_is e p (Ok step) g)) (by_way e.lent time role peer tid reason step a ok a.way))

@@ -7,6 +7,7 @@ use mathlib.Core.List.{List}
 use lib.ListN.{length, get_or}
 use lib.Dec.{ltb}
 use borrow.Author.Tests.{ltb-false}
+use Rattle.std.specs.Prelude.{Ok}
 use Rattle.base_layout.specs.Layout.{answer_size}
 use Rattle.base_lists.specs.Seq.{put}
 use Rattle.base_octets.proofs.StoredAndRead.{get_before, get_d_after, get_same}
@@ -18,7 +19,6 @@ use Rattle.law_salvage.proofs.Salvage.{salvage_says, salvage_settings}
 use Rattle.step_shown.specs.declared.Shown.{Shown}
 use Rattle.step_plan.specs.declared.Told.{Told}
 use Rattle.step_plan.specs.declared.Step.{Step}
-use Rattle.step_plan.specs.declared.Plan.TheVariants.{Go}
 use Rattle.step_outcome.specs.Carry.{sent_then, carried_out, outcome}
 use Rattle.c_answers.specs.Answers.{answer_number, answer_after, answer_words, cost_words, more_words, told_after}
 use Rattle.c_answers.specs.declared.Cost.{Cost}
@@ -62,11 +62,11 @@ module _ (words : List ℕ) (room : answer_size ≤ length words) (cost : Cost) 
       ∙ get_same (cost_words cost) words 32 k (omega (arith, room)) h
 
 module _ (x : Exported) (k : Keeps x) (accepted : x.seen.result ≡ 0) where
-  pub gone : (ltb (length x.words) answer_size ≡ false) × ((step : Step) × (plan_for x.call x.lent ≡ Go step))
+  pub gone : (ltb (length x.words) answer_size ≡ false) × ((step : Step) × (plan_for x.call x.lent ≡ Ok step))
   gone = gives_0 x.call x.lent x.words (sym (ap (λ (c : Called). c.result) k.keeps) ∙ accepted)
 
   abbrev cost : Cost
-  cost = plan_cost x.lent.table (Go gone.1.0)
+  cost = plan_cost x.lent.table (Ok gone.1.0)
 
   -- all words that C sees of an accepted call
   pub seen_is : x.seen.answer ≡ whole x.words (ltb-false _ _ gone.0) cost (length (sent_then x.lent gone.1.0)) gone.1.0.told gone.1.0.first gone.1.0.second (more_words (item_told x.call x.lent))

@@ -16,8 +16,8 @@ use Rattle.table_salvage.specs.Salvage.{salvage_number, table_salvaged, list_sal
 use Rattle.law_salvage.specs.Sentences.{Salvaged}
 use Rattle.law_salvage.proofs.Salvage.{number_0, refused_same, salvage_says, salvage_settings, formed_unchanged}
 use Rattle.table_fresh.specs.Fresh.{table_after_fresh}
-use Rattle.table_fresh.specs.declared.Fresh.{Fresh}
-use Rattle.table_fresh.specs.declared.Fresh.TheVariants as Fresh
+use Rattle.std.specs.Prelude.{Result, Ok, Err}
+use Rattle.base_numbers.specs.declared.Refusal.{Refusal}
 use Rattle.law_fresh_formed.proofs.Formed.{fresh_ok}
 use Rattle.call_plans.specs.Calls.{plan_for, promised}
 use Rattle.law_history.specs.Trace.{Entry, Run, Throughout}
@@ -36,10 +36,10 @@ use Rattle.wtp.specs.Engine.{Called, handed, costed, handed_by, told, or_small, 
 use Rattle.law_exported.specs.Session.{Exported, Keeps, entry_for, history_with, Calls, Session, SalvagedSession}
 
 -- a refused fresh-table call leaves the table
-pub fresh_refused : (a : Fresh) (t settings : List ℕ) (first : ℕ) → (a ≡ Fresh.Made → ⊥) → table_after_fresh a t settings first ≡ t
+pub fresh_refused : (a : Result Unit Refusal) (t settings : List ℕ) (first : ℕ) → (a ≡ Ok tt → ⊥) → table_after_fresh a t settings first ≡ t
 unfolding table_after_fresh
-fresh_refused Fresh.Made t settings first unmade = absurd (unmade refl)
-fresh_refused (Fresh.Refused r) t settings first unmade = refl
+fresh_refused (Ok x) t settings first unmade = absurd (unmade refl)
+fresh_refused (Err r) t settings first unmade = refl
 
 module _ (x : Exported) (k : Keeps x) where
   -- too few words: nothing changed; else what the engine promises
@@ -101,7 +101,7 @@ pub follows : {max : ℕ} {t s : List ℕ} {h : List Entry} → Session max t s 
 follows (Session.made old store settings first made calls) =
     let f = fresh_ok old settings first made in
     record {
-      table₀ = table_after_fresh Fresh.Made old settings first;
+      table₀ = table_after_fresh (Ok tt) old settings first;
       store₀ = store;
       inv = made_inv old settings first made;
       no_record = f.no_record;

@@ -11,6 +11,7 @@ use contract.Lifetimes.{Lfts}
 use denote.Triple.Clauses.{AtExit}
 use borrow.Fn.Kinds.{ended_of}
 use borrow.Fn.World.{ArgsD, ResD}
+use Rattle.std.specs.Prelude.{Ok, Err}
 use Rattle.codec_items.specs.Unknown.{no_unknown}
 use Rattle.base_layout.specs.Layout.{answer_size}
 use Rattle.base_lists.specs.Seq.{pick}
@@ -19,8 +20,7 @@ use Rattle.base_numbers.specs.declared.Refusal.{Refusal}
 use Rattle.base_numbers.specs.declared.Refusal.TheVariants as Refusal
 use Rattle.base_numbers.specs.declared.Refusal.TheVariants.{WrongSize}
 use Rattle.step_plan.specs.declared.Step.{Step}
-use Rattle.step_plan.specs.declared.Plan.{Plan}
-use Rattle.step_plan.specs.declared.Plan.TheVariants as Plan
+use Rattle.step_plan.specs.Steps.{Plan}
 use Rattle.step_outcome.specs.Carry.{Lent, lent, outcome}
 use Rattle.call_plans.specs.Calls.{Call, plan_for, promised}
 use Rattle.c_answers.specs.Answers.{answer_number, answer_after, more_words, told_after}
@@ -66,16 +66,16 @@ refused_over_0 Refusal.WrongFrame e = absurd (omega (arith, e))
 
 -- a call that gives 0 goes
 module _ (c : Call) (l : Lent) (words : List ℕ) where
-  gone : (plan : Plan) → plan_for c l ≡ plan → answer_number (outcome l plan).answer ≡ 0 → (step : Step) × (plan_for c l ≡ Plan.Go step)
+  gone : (plan : Plan) → plan_for c l ≡ plan → answer_number (outcome l plan).answer ≡ 0 → (step : Step) × (plan_for c l ≡ Ok step)
   unfolding outcome answer_number
-  gone (Plan.Go step) e h = (step, e)
-  gone (Plan.Refuse r) e h = absurd (refused_over_0 r h)
+  gone (Ok step) e h = (step, e)
+  gone (Err r) e h = absurd (refused_over_0 r h)
 
-  pub gives_0 : (called_by c l words).result ≡ 0 → (ltb (length words) answer_size ≡ false) × ((step : Step) × (plan_for c l ≡ Plan.Go step))
+  pub gives_0 : (called_by c l words).result ≡ 0 → (ltb (length words) answer_size ≡ false) × ((step : Step) × (plan_for c l ≡ Ok step))
   unfolding or_small handed_by handed told
   gives_0 = go (ltb (length words) answer_size) refl
     where
-      go : (b : Bool) → ltb (length words) answer_size ≡ b → (pick b (called (number_of WrongSize) l.table l.store l.output words) (told (handed_by l (plan_for c l) words) (more_words (item_told c l)))).result ≡ 0 → (ltb (length words) answer_size ≡ false) × ((step : Step) × (plan_for c l ≡ Plan.Go step))
+      go : (b : Bool) → ltb (length words) answer_size ≡ b → (pick b (called (number_of WrongSize) l.table l.store l.output words) (told (handed_by l (plan_for c l) words) (more_words (item_told c l)))).result ≡ 0 → (ltb (length words) answer_size ≡ false) × ((step : Step) × (plan_for c l ≡ Ok step))
       go true e h = absurd (omega (arith, h))
       go false e h = (e, gone (plan_for c l) refl h)
 

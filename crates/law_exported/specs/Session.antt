@@ -3,7 +3,7 @@ use Rattle.std.specs.Prelude.{ℕ, ◌≡◌, List, [], ◌∷◌, length, get_o
 use Rattle.base_layout.specs.Layout.{answer_size}
 use Rattle.base_lists.specs.Seq.{pick}
 use Rattle.table_fresh.specs.Fresh.{fresh_answer, table_after_fresh}
-use Rattle.table_fresh.specs.declared.Fresh.TheVariants.{Made}
+use Rattle.std.specs.Prelude.{Ok}
 use Rattle.table_layout.specs.Table.{settings_of}
 use Rattle.table_salvage.specs.Salvage.{salvage_number, table_salvaged}
 use Rattle.step_outcome.specs.Carry.{Lent}
@@ -35,7 +35,7 @@ history_with x h = pick (ltb (length x.words) answer_size) h (entry_for x ∷ h)
 pub data Calls (t₀ s₀ : List ℕ) : List ℕ → List ℕ → List Entry → Type 0 where
   begun : Calls t₀ s₀ t₀ s₀ []
   -- wtp_fresh was refused
-  refused : {t s : List ℕ} {h : List Entry} → Calls t₀ s₀ t s h → (settings : List ℕ) (first : ℕ) → (fresh_answer (length t) settings first ≡ Made → ⊥)
+  refused : {t s : List ℕ} {h : List Entry} → Calls t₀ s₀ t s h → (settings : List ℕ) (first : ℕ) → (fresh_answer (length t) settings first ≡ Ok tt → ⊥)
       → Calls t₀ s₀ (table_after_fresh (fresh_answer (length t) settings first) t settings first) s h
   -- wtp_salvage, accepted or not: of a table that nothing has damaged
   salvaged : {t s : List ℕ} {h : List Entry} → Calls t₀ s₀ t s h → (list : List ℕ) → Calls t₀ s₀ (table_salvaged t list) s h
@@ -46,7 +46,7 @@ pub data Calls (t₀ s₀ : List ℕ) : List ℕ → List ℕ → List Entry →
 -- calls from wtp_fresh on, with RCR_MAX
 pub data Session : ℕ → List ℕ → List ℕ → List Entry → Type 0 where
   -- wtp_fresh made the table, whatever it and the store held before: a new history begins
-  made : (old store settings : List ℕ) (first : ℕ) → fresh_answer (length old) settings first ≡ Made → {t s : List ℕ} {h : List Entry} → Calls (table_after_fresh Made old settings first) store t s h → Session (get_or settings 0 0) t s h
+  made : (old store settings : List ℕ) (first : ℕ) → fresh_answer (length old) settings first ≡ Ok tt → {t s : List ℕ} {h : List Entry} → Calls (table_after_fresh (Ok tt) old settings first) store t s h → Session (get_or settings 0 0) t s h
 
 -- calls from an accepted wtp_salvage on (02, L12), whatever octets and words it was lent: what it left of the table, and the store, are the start of a new history
 pub data SalvagedSession (t₀ s₀ : List ℕ) : ℕ → List ℕ → List ℕ → List Entry → Type 0 where

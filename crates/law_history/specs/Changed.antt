@@ -1,5 +1,5 @@
 -- "A call changes no record but the one it names, opens or fires": which record that is, and every octet that stays.
-use Rattle.std.specs.Prelude.{ℕ, ◌+◌, ◌*◌, ◌≤◌, ◌<◌, ◌≡◌, Bool, true, false, List, ◌⊎◌, length, get_or}
+use Rattle.std.specs.Prelude.{ℕ, ◌+◌, ◌*◌, ◌≤◌, ◌<◌, ◌≡◌, Bool, true, false, List, ◌⊎◌, length, get_or, Some}
 use Rattle.base_layout.specs.Layout.{header_size, record_size, gen_tid_at, rcr_max_at, tidnew_due_at, cached_at, base, cell_size}
 use Rattle.table_record.specs.Record.{role_of, class_of}
 use Rattle.table_record.specs.declared.Role.TheVariants.{Initiator, Responder}
@@ -10,7 +10,6 @@ use Rattle.table_record_ok.specs.OneRecord.{Live}
 use Rattle.codec_pdu.specs.declared.Kind.TheVariants as Kind
 use Rattle.codec_reading.specs.Read.{pdu_of}
 use Rattle.step_arrivals.specs.Arrivals.{name_of}
-use Rattle.step_arrivals.specs.declared.Name.TheVariants.{Of}
 use Rattle.step_plan.specs.declared.Told.TheVariants as Told
 use Rattle.call_plans.specs.Calls.{Call, peer_in, is_request}
 use Rattle.call_plans.specs.Concerns.{Concerns, fires}
@@ -60,7 +59,7 @@ pub record ByInvoke (e : Entry) (r : Record) : Type 0 where
   pub time : ℕ
   pub received : e.call ≡ Call.Receive time r.peer
   pub role : role_of r.state ≡ Responder
-  pub names : name_of e.lent.given ≡ Of Responder r.tid
+  pub names : name_of e.lent.given ≡ Some (Responder, r.tid)
   pub invoke : IsInvoke e.lent.given (class_of r.state) r.user_ack
 
 -- "opens": the place was free and has a live record now

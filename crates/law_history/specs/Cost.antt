@@ -1,15 +1,13 @@
 -- What a call costs, tells and means (02, L11): "the bytes it sent", "the Abort PDU aside"; what is promised of them is crates/law_cost's `Costs`.
-use Rattle.std.specs.Prelude.{ℕ, ◌%◌, ◌≡◌, List, length, eqb}
+use Rattle.std.specs.Prelude.{ℕ, ◌%◌, ◌≡◌, List, length, eqb, Some}
 use Rattle.base_layout.specs.Layout.{tid_count}
 use Rattle.base_lists.specs.Seq.{pick}
 use Rattle.table_record.specs.Record.{role_number}
 use Rattle.table_record.specs.declared.Role.TheVariants.{Initiator}
 use Rattle.codec_reading.specs.Read.{type_of}
 use Rattle.step_arrivals.specs.Arrivals.{tid_of, name_of}
-use Rattle.step_arrivals.specs.declared.Name.TheVariants.{Of}
 use Rattle.step_plan.specs.declared.Told.TheVariants as Told
-use Rattle.step_outcome.specs.Carry.{Lent}
-use Rattle.step_outcome.specs.declared.Answer.{Answer}
+use Rattle.step_outcome.specs.Carry.{Lent, Answer}
 use Rattle.c_answers.specs.Handed.{plan_cost}
 use Rattle.c_answers.specs.declared.Cost.{Cost}
 use Rattle.call_plans.specs.Calls.{Call, plan_for}
@@ -54,7 +52,7 @@ MeantBy (Call.Request time peer class user_ack) l a n = (n.role ≡ Initiator) �
 MeantBy (Call.Answer time role peer tid) l a n = GivenAs role peer tid n
 MeantBy (Call.Result time role peer tid) l a n = GivenAs role peer tid n
 MeantBy (Call.Abort time role peer tid reason) l a n = GivenAs role peer tid n
-MeantBy (Call.Receive time peer) l a n = (name_of l.given ≡ Of n.role n.tid) × (n.peer ≡ peer)
+MeantBy (Call.Receive time peer) l a n = (name_of l.given ≡ Some (n.role, n.tid)) × (n.peer ≡ peer)
 MeantBy (Call.Timer time) l a n = told_of_is a ≡ Told.Fired n.role n.peer n.tid
 MeantBy (Call.Fire time role peer tid) l a n = told_of_is a ≡ Told.Fired n.role n.peer n.tid
 

@@ -1,5 +1,5 @@
 -- Demand 3, sentence by sentence, over the history.
-use Rattle.std.specs.Prelude.{ℕ, ◌+◌, ◌/◌, ◌%◌, ◌≤◌, ◌<◌, ◌≡◌, Bool, true, false, List, [], ◌∷◌, ◌⊎◌}
+use Rattle.std.specs.Prelude.{ℕ, ◌+◌, ◌/◌, ◌%◌, ◌≤◌, ◌<◌, ◌≡◌, Bool, true, false, List, [], ◌∷◌, ◌⊎◌, Some, Ok, Err}
 use Rattle.base_lists.specs.Seq.{part}
 use Rattle.table_record.specs.Record.{role_number, send_tid}
 use Rattle.table_record.specs.declared.Role.TheVariants.{Initiator, Responder}
@@ -10,14 +10,12 @@ use Rattle.codec_reading.specs.Read.{pdu_of}
 use Rattle.table_layout.specs.Table.{count, record_at}
 use Rattle.table_names_ok.specs.Names.{Unique}
 use Rattle.step_arrivals.specs.Arrivals.{name_of}
-use Rattle.step_arrivals.specs.declared.Name.TheVariants.{Of}
 use Rattle.law_counting.specs.Counting.{Counts, Limits}
 use Rattle.step_shown.specs.Parts.{data_of}
 use Rattle.step_shown.specs.declared.Place.{Place}
 use Rattle.step_shown.specs.declared.Shown.{Shown}
 use Rattle.step_shown.specs.declared.Shown.TheVariants as Shown
-use Rattle.step_outcome.specs.declared.Answer.{Answer}
-use Rattle.step_outcome.specs.declared.Answer.TheVariants.{Refused, Taken}
+use Rattle.step_outcome.specs.Carry.{Answer}
 use Rattle.call_plans.specs.Calls.{Call}
 use Rattle.law_history.specs.Trace.{Entry, Throughout}
 use Rattle.law_history.specs.Tally.{Name, sent_of, accepted, adds, lives, opens, tally}
@@ -27,8 +25,8 @@ use Rattle.law_history.specs.Changed.{IsInvoke, CallFramed}
 
 -- a call shows this to its user
 abbrev pub ShownIn : Answer → Shown → Type 0
-ShownIn (Refused r) s = ⊥
-ShownIn (Taken sent told first second) s = (first ≡ s) ⊎ (second ≡ s)
+ShownIn (Err r) s = ⊥
+ShownIn (Ok a) s = (a.first ≡ s) ⊎ (a.second ≡ s)
 
 abbrev pub Shows : Entry → Shown → Type 0
 Shows e s = ShownIn e.done.answer s
@@ -57,7 +55,7 @@ pub record ResultTaken (e : Entry) (peer tid : ℕ) (place : Place) : Type 0 whe
   pub waited : (record_at (before e) waiting).state ≡ IResultWait2
   pub peer_is : (record_at (before e) waiting).peer ≡ peer
   pub tid_is : (record_at (before e) waiting).tid ≡ tid
-  pub names : name_of e.lent.given ≡ Of Initiator tid
+  pub names : name_of e.lent.given ≡ Some (Initiator, tid)
   pub exact : data_of e.lent.given e.done.store place ≡ user_data e.lent.given
 
 -- "a result only with the exact data of a Result PDU taken while that request waited for it"
@@ -84,7 +82,7 @@ pub record Received (h : List Entry) (peer tid class : ℕ) (up : Bool) (octets 
   pub opened : OpenedBy (responder peer tid) opener h
   pub time : ℕ
   pub received : opener.call ≡ Call.Receive time peer
-  pub names : name_of opener.lent.given ≡ Of Responder tid
+  pub names : name_of opener.lent.given ≡ Some (Responder, tid)
   pub invoke : IsInvoke opener.lent.given class up
   pub exact : octets ≡ user_data opener.lent.given
 
@@ -105,7 +103,7 @@ InvokeExact start e h = (peer tid class : ℕ) (up : Bool) (place : Place) → S
 pub record Invoke0Taken (e : Entry) (peer tid : ℕ) (up : Bool) (place : Place) : Type 0 where
   pub time : ℕ
   pub received : e.call ≡ Call.Receive time peer
-  pub names : name_of e.lent.given ≡ Of Responder tid
+  pub names : name_of e.lent.given ≡ Some (Responder, tid)
   pub invoke : IsInvoke e.lent.given 0 up
   pub none_lives : lives (before e) (record { role = Responder; peer = peer; tid = tid }) ≡ false
   pub exact : data_of e.lent.given e.done.store place ≡ user_data e.lent.given

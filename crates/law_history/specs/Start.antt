@@ -1,5 +1,5 @@
 -- Where a history begins: with a table made fresh, or with one that has live records (02, L12: "demand 3 counts history afresh, with live records, and what the store holds for them, taken as the start").
-use Rattle.std.specs.Prelude.{ℕ, ◌*◌, ◌<◌, ◌≡◌, Bool, true, ◌||◌, List, eqb}
+use Rattle.std.specs.Prelude.{ℕ, ◌*◌, ◌<◌, ◌≡◌, Bool, true, ◌||◌, List, eqb, Option, Some, None}
 use Rattle.base_layout.specs.Layout.{cell_size}
 use Rattle.base_lists.specs.Seq.{part}
 use Rattle.table_record.specs.Record.{class_of, state_number}
@@ -7,8 +7,6 @@ use Rattle.table_record.specs.declared.State.{State}
 use Rattle.table_record.specs.declared.State.TheVariants.{RTidokWait1, RTidokWait2}
 use Rattle.table_layout.specs.Table.{count, record_at}
 use Rattle.table_finding.specs.Finding.{named_of}
-use Rattle.table_finding.specs.declared.Found.{Found}
-use Rattle.table_finding.specs.declared.Found.TheVariants.{At, Nothing}
 use Rattle.law_counting.specs.Counting.{Counts, none, counts_in}
 use Rattle.law_history.specs.Tally.{Name}
 
@@ -26,9 +24,9 @@ abbrev pub in_tidok_wait : State → Bool
 in_tidok_wait s = eqb (state_number s) (state_number RTidokWait1) || eqb (state_number s) (state_number RTidokWait2)
 
 -- "live records .. taken as the start": a live record counts as having sent and shown what its state, RCR and HoldOn say
-abbrev pub said_by : List ℕ → Found → Counts
-said_by t (At i) = counts_in (record_at t i).state (record_at t i).rcr.0 (record_at t i).hold_on
-said_by t Nothing = none
+abbrev pub said_by : List ℕ → Option ℕ → Counts
+said_by t (Some i) = counts_in (record_at t i).state (record_at t i).rcr.0 (record_at t i).hold_on
+said_by t None = none
 
 -- "and what the store holds for them": a record in TIDOK WAIT is that of the Invoke whose data its cell holds
 pub record Kept (t s : List ℕ) (peer tid class : ℕ) (up : Bool) (octets : List ℕ) : Type 0 where

@@ -1,5 +1,5 @@
 -- What is counted in the history under a name (demand 3): indications as they were shown, PDUs as their octets read.
-use Rattle.std.specs.Prelude.{ℕ, ◌/◌, ◌%◌, Bool, true, false, List, [], ◌∷◌, get_or, ltb, eqb}
+use Rattle.std.specs.Prelude.{ℕ, ◌/◌, ◌%◌, Bool, true, false, List, [], ◌∷◌, get_or, ltb, eqb, is_some, Ok, Err}
 use Rattle.base_layout.specs.Layout.{tid_count}
 use Rattle.base_lists.specs.Seq.{pick, bit, part}
 use Rattle.table_record.specs.Record.{role_number}
@@ -8,14 +8,13 @@ use Rattle.table_record.specs.declared.Role.TheVariants.{Initiator, Responder}
 use Rattle.table_layout.specs.Table.{count}
 use Rattle.codec_reading.specs.Read.{type_of}
 use Rattle.step_arrivals.specs.Arrivals.{tid_of}
-use Rattle.table_finding.specs.Finding.{is_found, named_of}
+use Rattle.table_finding.specs.Finding.{named_of}
 use Rattle.law_counting.specs.Counting.{Counts, none, plus, requested, invoked, aborted}
 use Rattle.step_shown.specs.declared.Shown.{Shown}
 use Rattle.step_shown.specs.declared.Shown.TheVariants as Shown
 use Rattle.step_plan.specs.declared.Told.{Told}
 use Rattle.step_plan.specs.declared.Told.TheVariants as Told
-use Rattle.step_outcome.specs.declared.Answer.{Answer}
-use Rattle.step_outcome.specs.declared.Answer.TheVariants.{Refused, Taken}
+use Rattle.step_outcome.specs.Carry.{Answer}
 use Rattle.call_plans.specs.Calls.{Call, peer_in, is_request}
 use Rattle.law_history.specs.Trace.{Entry}
 
@@ -38,18 +37,18 @@ of_shown n (Shown.Abort role peer tid type reason) = pick (is_named n role peer 
 
 -- the octets that a call sent
 abbrev pub sent_of : Answer → List ℕ → List ℕ
-sent_of (Refused r) output = []
-sent_of (Taken sent told first second) output = part output 0 sent
+sent_of (Err r) output = []
+sent_of (Ok a) output = part output 0 a.sent
 
 -- what an accepted call tells: the TID that a request was given, the record that was fired
 abbrev pub told_of_is : Answer → Told
-told_of_is (Refused r) = Told.Nothing
-told_of_is (Taken sent told first second) = told
+told_of_is (Err r) = Told.Nothing
+told_of_is (Ok a) = a.told
 
 -- a call was accepted
 abbrev pub accepted : Answer → Bool
-accepted (Refused r) = false
-accepted (Taken sent told first second) = true
+accepted (Err r) = false
+accepted (Ok a) = true
 
 -- whom they go to: the peer that the call names, or that of the record that was fired
 abbrev pub peer_told : Told → ℕ → ℕ
@@ -77,8 +76,8 @@ of_sent n peer s = pick (is_named n (sender_role s) peer (tid_of s % tid_count))
 
 -- what an answer shows under a name
 abbrev pub of_answer : Name → Answer → Counts
-of_answer n (Refused r) = none
-of_answer n (Taken sent told first second) = plus (of_shown n first) (of_shown n second)
+of_answer n (Err r) = none
+of_answer n (Ok a) = plus (of_shown n a.first) (of_shown n a.second)
 
 -- what a call adds under a name
 unfoldable pub adds : Entry → Name → Counts
@@ -86,7 +85,7 @@ adds e n = plus (of_sent n (peer_of e.call e.done.answer) (sent_of e.done.answer
 
 -- a live record has this name
 abbrev pub lives : List ℕ → Name → Bool
-lives t n = is_found (named_of t (count t) n.role n.peer n.tid)
+lives t n = is_some (named_of t (count t) n.role n.peer n.tid)
 
 -- a request that was accepted with this TID, of class 0 too
 abbrev pub given_tid : Told → ℕ → Name → Bool

@@ -5,6 +5,7 @@ use mathlib.Core.Path.{◌≡◌, refl, ap}
 use mathlib.Core.Bool.{Bool}
 use mathlib.Core.List.{List, []}
 use mathlib.Core.Logic.{◌⊎◌, inl, inr}
+use Rattle.std.specs.Prelude.{Option, Some, None}
 use Rattle.base_lists.specs.Seq.{bit}
 use Rattle.base_lists.proofs.StoresAndParts.{bit_le}
 use Rattle.table_record.specs.Record.{role_of}
@@ -12,8 +13,6 @@ use Rattle.table_record.specs.declared.State.{State}
 use Rattle.table_record.specs.declared.State.TheVariants.{Free, IResultWait1, IResultWait2, IResultRespWait, IWaitTimeout, RTidokWait1, RTidokWait2, RInvokeRespWait1, RInvokeRespWait2, RResultWait, RResultRespWait, RWaitTimeout}
 use Rattle.table_layout.specs.Table.{count, record_at, settings_of}
 use Rattle.table_finding.specs.Finding.{named_of}
-use Rattle.table_finding.specs.declared.Found.{Found}
-use Rattle.table_finding.specs.declared.Found.TheVariants.{At, Nothing}
 use Rattle.table_finding.proofs.Searches.{named_found, named_nothing}
 use Rattle.table_record_ok.specs.OneRecord.{Live}
 use Rattle.table_names_ok.specs.Names.{SameName}
@@ -52,31 +51,31 @@ module _ (t s : List ℕ) (formed : WellFormed t) where
   abbrev max : ℕ
   max = (settings_of t).rcr_max
 
-  abbrev named : Name → Found
+  abbrev named : Name → Option ℕ
   named n = named_of t (count t) n.role n.peer n.tid
 
   -- the live record at a place is the one that its name finds
-  pub finds_itself : (i : ℕ) → i < count t → Live (record_at t i) → named (name_of (record_at t i)) ≡ At i
+  pub finds_itself : (i : ℕ) → i < count t → Live (record_at t i) → named (name_of (record_at t i)) ≡ Some i
   finds_itself i inside live = go (named (name_of (record_at t i))) refl
     where
-      is_place : (j : ℕ) → (j ≡ i) ⊎ (j ≡ i → ⊥) → j < count t → Live (record_at t j) → SameName (record_at t j) (record_at t i) → At j ≡ At i
-      is_place j (inl q) b l n = ap At q
+      is_place : (j : ℕ) → (j ≡ i) ⊎ (j ≡ i → ⊥) → j < count t → Live (record_at t j) → SameName (record_at t j) (record_at t i) → Some j ≡ Some i
+      is_place j (inl q) b l n = ap Some q
       is_place j (inr d) b l n = absurd (formed.unique j i b inside d l live n)
 
-      go : (f : Found) → named (name_of (record_at t i)) ≡ f → f ≡ At i
-      go (At j) e =
+      go : (f : Option ℕ) → named (name_of (record_at t i)) ≡ f → f ≡ Some i
+      go (Some j) e =
           let l = named_found t (count t) (role_of (record_at t i).state) (record_at t i).peer (record_at t i).tid j e in
           is_place j (same_number j i) l.below (live_number (record_at t j).state l.is_so.live) (record { role = l.is_so.role_is; peer = l.is_so.peer_is; tid = l.is_so.tid_is })
-      go Nothing e = absurd (named_nothing t (count t) (role_of (record_at t i).state) (record_at t i).peer (record_at t i).tid e i inside (record { live = not_free (record_at t i).state live; role_is = refl; peer_is = refl; tid_is = refl }))
+      go None e = absurd (named_nothing t (count t) (role_of (record_at t i).state) (record_at t i).peer (record_at t i).tid e i inside (record { live = not_free (record_at t i).state live; role_is = refl; peer_is = refl; tid_is = refl }))
 
   within : (n : Name) → Limits max (said_by t (named n))
   within n = go (named n) refl
     where
-      go : (f : Found) → named n ≡ f → Limits max (said_by t f)
-      go (At i) e =
+      go : (f : Option ℕ) → named n ≡ f → Limits max (said_by t f)
+      go (Some i) e =
           let l = named_found t (count t) n.role n.peer n.tid i e in
           says_limits max (record_at t i).rcr.0 (record_at t i).hold_on (live_range t formed i (record { inside = l.below; live = live_number (record_at t i).state l.is_so.live })).bounds.rcr (record_at t i).state
-      go Nothing e = none_limits max
+      go None e = none_limits max
 
   pub formed_inv : Inv (start_of t s) max t []
   unfolding tally

@@ -9,7 +9,7 @@ use Rattle.table_layout.specs.Table.{count, settings_of}
 use Rattle.table_layout.specs.declared.Settings.{Settings}
 use Rattle.law_counting.specs.Counting.{none, Limits}
 use Rattle.table_fresh.specs.Fresh.{fresh_answer, table_after_fresh}
-use Rattle.table_fresh.specs.declared.Fresh.TheVariants.{Made}
+use Rattle.std.specs.Prelude.{Ok}
 use Rattle.table_fresh.proofs.Ranges.{in_range_holds}
 use Rattle.table_fresh.proofs.Answers.{accepted}
 use Rattle.table_fresh.proofs.Facts.{fresh_facts}
@@ -31,13 +31,13 @@ fresh_inv old t first f = record {
   limits = λ n. none_limits (settings_of t).rcr_max;
 }
 
-module _ (old ws : List ℕ) (first : ℕ) (made : fresh_answer (length old) ws first ≡ Made) where
+module _ (old ws : List ℕ) (first : ℕ) (made : fresh_answer (length old) ws first ≡ Ok tt) where
   -- RCR_MAX of a fresh table is its first setting
-  fresh_rcr_max : (settings_of (table_after_fresh Made old ws first)).rcr_max ≡ get_or ws 0 0
+  fresh_rcr_max : (settings_of (table_after_fresh (Ok tt) old ws first)).rcr_max ≡ get_or ws 0 0
   unfolding table_after_fresh
   fresh_rcr_max = ap (λ (s : Settings). s.rcr_max) (fresh_facts (count old) ws first (in_range_holds ws first (accepted (length old) ws first made).1)).settings
 
-  pub made_inv : Inv fresh (get_or ws 0 0) (table_after_fresh Made old ws first) []
+  pub made_inv : Inv fresh (get_or ws 0 0) (table_after_fresh (Ok tt) old ws first) []
   made_inv =
-      let v = fresh_inv old (table_after_fresh Made old ws first) first (fresh_ok old ws first made) in
+      let v = fresh_inv old (table_after_fresh (Ok tt) old ws first) first (fresh_ok old ws first made) in
       rw fresh_rcr_max at v

@@ -7,6 +7,7 @@ use mathlib.Core.Bool.{true, false}
 use mathlib.Core.List.{List}
 use mathlib.Core.Logic.{◌⊎◌, inl, inr}
 use lib.Dec.{eqb}
+use Rattle.std.specs.Prelude.{Option, Some, None, is_some}
 use Rattle.base_lists.proofs.StoresAndParts.{told, true_false}
 use Rattle.table_record.specs.Record.{role_number}
 use Rattle.table_record.specs.declared.Role.{Role}
@@ -16,9 +17,7 @@ use Rattle.table_layout.specs.Table.{count, record_at}
 use Rattle.table_record_ok.specs.OneRecord.{Live}
 use Rattle.table_names_ok.specs.Names.{SameName}
 use Rattle.table_well_formed.specs.WellFormed.{WellFormed}
-use Rattle.table_finding.specs.Finding.{is_found, named_of}
-use Rattle.table_finding.specs.declared.Found.{Found}
-use Rattle.table_finding.specs.declared.Found.TheVariants.{At, Nothing}
+use Rattle.table_finding.specs.Finding.{named_of}
 use Rattle.table_finding.proofs.Searches.{named_nothing}
 use Rattle.law_plans_sound.proofs.Receives.{not_free}
 use Rattle.law_history.specs.Tally.{Name, lives}
@@ -63,9 +62,9 @@ module _ (t : List ℕ) where
   pub unused_name : (n : Name) → lives t n ≡ false → (j : ℕ) → j < count t → Live (record_at t j) → name_of (record_at t j) ≡ n → ⊥
   unused_name n e j h live same = go (named_of t (count t) n.role n.peer n.tid) refl e
     where
-      go : (f : Found) → named_of t (count t) n.role n.peer n.tid ≡ f → is_found f ≡ false → ⊥
-      go (At i) q x = true_false x
-      go Nothing q x = named_nothing t (count t) n.role n.peer n.tid q j h (record {
+      go : (f : Option ℕ) → named_of t (count t) n.role n.peer n.tid ≡ f → is_some f ≡ false → ⊥
+      go (Some i) q x = true_false x
+      go None q x = named_nothing t (count t) n.role n.peer n.tid q j h (record {
         live = not_free (record_at t j).state live;
         role_is = ap (λ (x : Name). x.role) same;
         peer_is = ap (λ (x : Name). x.peer) same;

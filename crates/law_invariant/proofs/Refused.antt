@@ -3,6 +3,7 @@ use Prim.Native.Nat.{ℕ, ◌%◌}
 use mathlib.Core.Path.{◌≡◌, refl, sym, ap, ◌∙◌}
 use mathlib.Core.Bool.{Bool, true, false}
 use mathlib.Core.List.{[]}
+use Rattle.std.specs.Prelude.{Err}
 use Rattle.base_lists.specs.Seq.{pick}
 use Rattle.base_lists.proofs.StoresAndParts.{true_false}
 use Rattle.base_numbers.specs.declared.Refusal.{Refusal}
@@ -12,9 +13,7 @@ use Rattle.table_layout.specs.Table.{record_at}
 use Rattle.step_arrivals.specs.Arrivals.{tid_of}
 use Rattle.law_counting.specs.Counting.{none}
 use Rattle.step_plan.specs.declared.Told.TheVariants as Told
-use Rattle.step_plan.specs.declared.Plan.TheVariants.{Refuse}
 use Rattle.step_outcome.specs.Carry.{Done, done, outcome}
-use Rattle.step_outcome.specs.declared.Answer.TheVariants.{Refused}
 use Rattle.c_answers.specs.Handed.{plan_cost}
 use Rattle.call_plans.specs.Calls.{Call, plan_for, promised, is_request}
 use Rattle.law_history.specs.Trace.{Entry, Promise}
@@ -52,10 +51,10 @@ none_accepted c n = go (is_request c)
     go true = refl
     go false = refl
 
-module _ (e : Entry) (r : Refusal) (is : e.done ≡ done (Refused r) e.lent.table e.lent.store e.lent.output) where
+module _ (e : Entry) (r : Refusal) (is : e.done ≡ done (Err r) e.lent.table e.lent.store e.lent.output) where
   nothing_added : (n : Name) → adds e n ≡ none
   unfolding adds
-  nothing_added n = rw (is, none_sent n (peer_of e.call (Refused r))) refl
+  nothing_added n = rw (is, none_sent n (peer_of e.call (Err r))) refl
 
   nothing_opened : (n : Name) (role : Role) → opens_for role e n ≡ false
   nothing_opened n Initiator = rw is (none_accepted e.call n)
@@ -67,9 +66,9 @@ module _ (e : Entry) (r : Refusal) (is : e.done ≡ done (Refused r) e.lent.tabl
 
   nothing_charged : (n : Name) → charged e n ≡ 0
   unfolding charged
-  nothing_charged n = rw (is, none_weighs n (peer_of e.call (Refused r))) refl
+  nothing_charged n = rw (is, none_weighs n (peer_of e.call (Err r))) refl
 
-  quiet : plan_for e.call e.lent ≡ Refuse r → Quiet e
+  quiet : plan_for e.call e.lent ≡ Err r → Quiet e
   unfolding opens cost_told plan_cost
   quiet plan = record {
     silent = λ n. record { adds_none = nothing_added n; not_opened = nothing_opened n n.role; uncharged = nothing_charged n };
@@ -79,9 +78,9 @@ module _ (e : Entry) (r : Refusal) (is : e.done ≡ done (Refused r) e.lent.tabl
   }
 
 -- "A refusal gives only its number and changes no lent byte"
-pub refused_is : (e : Entry) → Promise e → (r : Refusal) → plan_for e.call e.lent ≡ Refuse r → e.done ≡ done (Refused r) e.lent.table e.lent.store e.lent.output
+pub refused_is : (e : Entry) → Promise e → (r : Refusal) → plan_for e.call e.lent ≡ Err r → e.done ≡ done (Err r) e.lent.table e.lent.store e.lent.output
 unfolding promised outcome
 refused_is e p r q = p.keeps ∙ ap (outcome e.lent) q
 
-pub refused_quiet : (e : Entry) → Promise e → (r : Refusal) → plan_for e.call e.lent ≡ Refuse r → Quiet e
+pub refused_quiet : (e : Entry) → Promise e → (r : Refusal) → plan_for e.call e.lent ≡ Err r → Quiet e
 refused_quiet e p r q = quiet e r (refused_is e p r q) q

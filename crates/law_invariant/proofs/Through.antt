@@ -2,12 +2,12 @@
 use Prim.Native.Nat.{ℕ}
 use mathlib.Core.Path.{◌≡◌, refl, sym, ap, subst}
 use mathlib.Core.List.{List, []}
+use Rattle.std.specs.Prelude.{Ok, Err}
 use Rattle.base_numbers.specs.declared.Refusal.{Refusal}
 use Rattle.table_layout.specs.Table.{count, settings_of}
 use Rattle.table_well_formed.specs.WellFormed.{WellFormed}
 use Rattle.step_plan.specs.declared.Step.{Step}
-use Rattle.step_plan.specs.declared.Plan.{Plan}
-use Rattle.step_plan.specs.declared.Plan.TheVariants.{Refuse, Go}
+use Rattle.step_plan.specs.Steps.{Plan}
 use Rattle.step_outcome.specs.Carry.{Done}
 use Rattle.law_steps_sound.specs.Sound.{Fits}
 use Rattle.law_plans_sound.specs.Plans.{RestUnchanged, StillFits}
@@ -33,20 +33,20 @@ module _ (e : Entry) (p : Promise e) where
   still : Fits e.lent → StillFits e.lent e.done
   still f = subst (λ (d : Done). StillFits e.lent d) (sym p.keeps) (call_still_fits e.call e.lent p.lends f)
 
-  accepted_around : (step : Step) → plan_for e.call e.lent ≡ Go step → Around e
+  accepted_around : (step : Step) → plan_for e.call e.lent ≡ Ok step → Around e
   accepted_around step q =
       let f : Fits e.lent = (call_ways e.call e.lent step q).fits in
       let k : RestUnchanged e.lent e.done step = subst (λ (d : Done). RestUnchanged e.lent d step) (sym p.keeps) (call_keeps e.call e.lent step p.lends f q) in
       record { formed = (still f).formed; same_count = rw k.table.same_length refl; same_settings = k.table.settings }
 
   -- a refusal leaves all
-  same_table : (r : Refusal) → plan_for e.call e.lent ≡ Refuse r → after e ≡ before e
+  same_table : (r : Refusal) → plan_for e.call e.lent ≡ Err r → after e ≡ before e
   same_table r q = ap (λ (d : Done). d.table) (refused_is e p r q)
 
-  same_store : (r : Refusal) → plan_for e.call e.lent ≡ Refuse r → e.done.store ≡ e.lent.store
+  same_store : (r : Refusal) → plan_for e.call e.lent ≡ Err r → e.done.store ≡ e.lent.store
   same_store r q = ap (λ (d : Done). d.store) (refused_is e p r q)
 
-  refused_around : (r : Refusal) → plan_for e.call e.lent ≡ Refuse r → WellFormed (before e) → Around e
+  refused_around : (r : Refusal) → plan_for e.call e.lent ≡ Err r → WellFormed (before e) → Around e
   refused_around r q w = record { formed = subst WellFormed (sym (same_table r q)) w; same_count = ap count (same_table r q); same_settings = ap settings_of (same_table r q) }
 
   -- every call, refused or not
@@ -54,15 +54,15 @@ module _ (e : Entry) (p : Promise e) where
   around w = go (plan_for e.call e.lent) refl
     where
       go : (plan : Plan) → plan_for e.call e.lent ≡ plan → Around e
-      go (Refuse r) q = refused_around r q w
-      go (Go step) q = accepted_around step q
+      go (Err r) q = refused_around r q w
+      go (Ok step) q = accepted_around step q
 
   sizes_kept : Sizes (before e) e.lent.store → Sizes (after e) e.done.store
   sizes_kept z = go (plan_for e.call e.lent) refl
     where
       go : (plan : Plan) → plan_for e.call e.lent ≡ plan → Sizes (after e) e.done.store
-      go (Refuse r) q = rw (same_table r q, same_store r q) z
-      go (Go step) q = let k = still (call_ways e.call e.lent step q).fits in record { formed = k.formed; cells = k.cells }
+      go (Err r) q = rw (same_table r q, same_store r q) z
+      go (Ok step) q = let k = still (call_ways e.call e.lent step q).fits in record { formed = k.formed; cells = k.cells }
 
   not_for_size : Sizes (before e) e.lent.store → (h : List Entry) → NotForSize e h
   not_for_size z h room q = fits_not_refused e.call e.lent (record { formed = z.formed; cells = z.cells; room = room }) q
@@ -88,8 +88,8 @@ module _ (moves : Moves) (start : Start) (max : ℕ) where
   call_steps e h p v = go (plan_for e.call e.lent) refl
     where
       go : (plan : Plan) → plan_for e.call e.lent ≡ plan → Stepped start max e h
-      go (Refuse r) q = quiet_keeps start max e h v (refused_around e p r q v.formed) (refused_quiet e p r q)
-      go (Go step) q = move_keeps start max e h v (accepted_around e p step q) (moves e p step q)
+      go (Err r) q = quiet_keeps start max e h v (refused_around e p r q v.formed) (refused_quiet e p r q)
+      go (Ok step) q = move_keeps start max e h v (accepted_around e p step q) (moves e p step q)
 
   -- from any start that satisfies it
   pub kept_through : {t₀ s₀ t s : List ℕ} {h : List Entry} → Inv start max t₀ [] → Run t₀ s₀ t s h → Held start max t h

@@ -7,6 +7,7 @@ use mathlib.Core.List.{List}
 use mathlib.Core.Logic.{inl, inr}
 use lib.ListN.{length}
 use lib.Dec.{eqb}
+use Rattle.std.specs.Prelude.{Option, None, Ok, Err}
 use Rattle.base_layout.specs.Layout.{limit_offset, base}
 use Rattle.base_lists.specs.Seq.{pick}
 use Rattle.codec_reading.specs.Read.{pdu_of}
@@ -26,15 +27,12 @@ use Rattle.row_turns.specs.declared.Given.{Given}
 use Rattle.step_commit.specs.Commit.{record_changed, table_changed}
 use Rattle.step_commit.specs.declared.Change.{Change}
 use Rattle.step_commit.specs.declared.Change.TheVariants as Change
-use Rattle.step_commit.specs.declared.GenTidChange.{GenTidChange}
-use Rattle.step_commit.specs.declared.GenTidChange.TheVariants.{Unchanged}
+use Rattle.step_commit.specs.declared.GenTid.{GenTid}
 use Rattle.step_changes.specs.Changes.{change_of, turn_changes}
-use Rattle.step_plan.specs.Steps.{step_of, idle_changes, idle_step}
+use Rattle.step_plan.specs.Steps.{step_of, idle_changes, idle_step, Plan}
 use Rattle.step_plan.specs.declared.Holder.{Holder}
 use Rattle.step_plan.specs.declared.Call.{Call as Asked}
 use Rattle.step_plan.specs.declared.Step.{Step}
-use Rattle.step_plan.specs.declared.Plan.{Plan}
-use Rattle.step_plan.specs.declared.Plan.TheVariants.{Refuse, Go}
 use Rattle.step_live.specs.Turning.{live_turn, live_step}
 use Rattle.step_opening.specs.Opens.{place_for, opening_changes, opened_turn, opening_step}
 use Rattle.step_outcome.specs.Carry.{Lent, table_then, sent_then, carried_out, outcome}
@@ -98,7 +96,7 @@ module _ (t : List ℕ) (w : WellFormed t) (m : ModeOff t) where
   unfolding live_step step_of turn_changes
   live_so place l event g c = changed_so place l.inside (live_turn t place event g).after (live_limit t m place l.inside l.live event g) Change.Clear (clear_so place)
 
-  opening_so : (opening : Opening) (h : Holder) (g : Given) (gen_tid : GenTidChange) (c : Asked) → h.place < count t → StepSo (opening_step t opening h g gen_tid c)
+  opening_so : (opening : Opening) (h : Holder) (g : Given) (gen_tid : Option GenTid) (c : Asked) → h.place < count t → StepSo (opening_step t opening h g gen_tid c)
   unfolding opening_step step_of opening_changes
   opening_so opening h g gen_tid c inside = changed_so h.place inside (opened_turn t opening h g).after (opened_limit t m opening h g) Change.Nothing (nothing_so h.place)
 
@@ -119,7 +117,7 @@ module _ (c : Call) (l : Lent) (m : ModeOff l.table) (w : WellFormed l.table) (s
       let p = pdu_of l.given in
       let tid = u.unmatched.tid in
       let h : Holder = arriver_of (place_for (free_of t (count t))) u.unmatched.role u.peer tid p.kind in
-      subst (StepSo t w m) (sym u.step_is) (opening_so t w m (arrival_opening t u.peer tid l.given p) h (opened_given u.time p) Unchanged (opened_call p) (free_place_holds t w))
+      subst (StepSo t w m) (sym u.step_is) (opening_so t w m (arrival_opening t u.peer tid l.given p) h (opened_given u.time p) None (opened_call p) (free_place_holds t w))
 
   carried_so : Way c l step → carried_out l step ≡ base_carried_out l step
   unfolding carried_out base_carried_out table_then sent_then table_changed base_table_changed
@@ -131,5 +129,5 @@ unfolding promised base_promised outcome base_outcome
 mode_off_call c l m = go (plan_for c l) refl ∙ ap (base_outcome l) (mode_off_plan c l m)
   where
     go : (plan : Plan) → plan_for c l ≡ plan → outcome l plan ≡ base_outcome l plan
-    go (Refuse r) e = refl
-    go (Go step) e = let a = call_ways c l step e in carried_so c l m a.fits.formed step a.way
+    go (Err r) e = refl
+    go (Ok step) e = let a = call_ways c l step e in carried_so c l m a.fits.formed step a.way

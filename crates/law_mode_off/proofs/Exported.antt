@@ -12,11 +12,11 @@ use Rattle.base_lists.specs.Seq.{pick}
 use Rattle.table_layout.specs.Table.{settings_of}
 use Rattle.table_layout.specs.declared.Settings.{Settings}
 use Rattle.table_fresh.specs.Fresh.{fresh_answer, table_after_fresh}
-use Rattle.table_fresh.specs.declared.Fresh.TheVariants as Fresh
+use Rattle.std.specs.Prelude.{Ok}
 use Rattle.table_well_formed.specs.WellFormed.{WellFormed}
 use Rattle.table_salvage.specs.Salvage.{table_salvaged}
 use Rattle.law_fresh_formed.proofs.Formed.{fresh_ok}
-use Rattle.step_plan.specs.declared.Plan.{Plan}
+use Rattle.step_plan.specs.Steps.{Plan}
 use Rattle.call_plans.specs.Calls.{plan_for, promised}
 use Rattle.law_history.specs.Trace.{Entry, Throughout}
 use Rattle.wtp.specs.Engine.{handed, costed, handed_by, or_small, item_told}

@@ -14,8 +14,8 @@ use Rattle.base_octets.specs.Octets.{enc}
 use Rattle.table_layout.specs.Table.{count}
 use Rattle.table_ranges.specs.Ranges.{ModesOk, off, on, modes_ok}
 use Rattle.table_fresh.specs.Fresh.{word_ok, words_ok, in_range, fresh_answer, zeros, fields_of, fresh_table, table_after_fresh, left_by_is, left}
-use Rattle.table_fresh.specs.declared.Fresh.{Fresh}
-use Rattle.table_fresh.specs.declared.Fresh.TheVariants as Fresh
+use Rattle.std.specs.Prelude.{Result, Ok, Err}
+use Rattle.base_numbers.specs.declared.Refusal.{Refusal}
 use Rattle.table_fresh.specs.Conditions.{AllInRange}
 use Rattle.table_fresh.proofs.Ranges.{in_range_holds}
 use Rattle.table_fresh.proofs.Answers.{accepted}
@@ -96,12 +96,12 @@ module _ (ws : List ℕ) (first : ℕ) (mode : get_or ws 22 0 ≡ 0) where
   unfolding fresh_table base_fresh_table fields_of zeros enc
   table_made z n = rw (z, mode) refl
 
-  table_as_before : (old : List ℕ) (a : Fresh) → fresh_answer (length old) ws first ≡ a → table_after_fresh a old ws first ≡ base_table_after_fresh a old ws first
+  table_as_before : (old : List ℕ) (a : Result Unit Refusal) → fresh_answer (length old) ws first ≡ a → table_after_fresh a old ws first ≡ base_table_after_fresh a old ws first
   unfolding table_after_fresh base_table_after_fresh
-  table_as_before old Fresh.Made e = table_made (no_limit (in_range_holds ws first (accepted (length old) ws first e).1).modes) (count old)
-  table_as_before old (Fresh.Refused r) e = refl
+  table_as_before old (Ok x) e = table_made (no_limit (in_range_holds ws first (accepted (length old) ws first e).1).modes) (count old)
+  table_as_before old (Err r) e = refl
 
   -- MODE 0: what wtp_fresh gives and leaves is what the base's gives and leaves
   pub fresh_as_before : (old : List ℕ) → left_by_is old ws first ≡ base_left_by old ws first
   unfolding left_by_is base_left_by
-  fresh_as_before old = ap (left (fresh_answer (length old) ws first)) (table_as_before old (fresh_answer (length old) ws first) refl) ∙ ap (λ (a : Fresh). left a (base_table_after_fresh a old ws first)) (number_as_before (length old))
+  fresh_as_before old = ap (left (fresh_answer (length old) ws first)) (table_as_before old (fresh_answer (length old) ws first) refl) ∙ ap (λ (a : Result Unit Refusal). left a (base_table_after_fresh a old ws first)) (number_as_before (length old))

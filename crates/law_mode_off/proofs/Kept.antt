@@ -8,6 +8,7 @@ use mathlib.Core.Logic.{◌⊎◌, inl, inr}
 use lib.ListN.{length, get_or}
 use lib.Dec.{eqb}
 use borrow.Author.Tests.{eqb-true, eqb-false}
+use Rattle.std.specs.Prelude.{Ok, Err}
 use Rattle.base_lists.proofs.StoresAndParts.{told, lt_or_le}
 use Rattle.table_record.specs.Record.{state_number}
 use Rattle.table_record.specs.declared.Record.{Record}
@@ -15,7 +16,7 @@ use Rattle.table_layout.specs.Table.{count, settings_of, intervals_of, record_at
 use Rattle.table_layout.specs.declared.Settings.{Settings}
 use Rattle.table_record_ok.specs.OneRecord.{Live}
 use Rattle.table_fresh.specs.Fresh.{fresh_answer, table_after_fresh}
-use Rattle.table_fresh.specs.declared.Fresh.TheVariants.{Made}
+use Rattle.std.specs.Prelude.{Ok}
 use Rattle.table_fresh.specs.Conditions.{word, AllInRange}
 use Rattle.table_fresh.proofs.Ranges.{in_range_holds}
 use Rattle.table_fresh.proofs.Answers.{accepted}
@@ -24,8 +25,7 @@ use Rattle.law_fresh_formed.proofs.Formed.{fresh_ok}
 use Rattle.row_entries.specs.Acts.{opening_act}
 use Rattle.row_turns.specs.Turns.{new_record, opening_turn}
 use Rattle.step_live.specs.Turning.{live_turn}
-use Rattle.step_plan.specs.declared.Plan.{Plan}
-use Rattle.step_plan.specs.declared.Plan.TheVariants.{Refuse, Go}
+use Rattle.step_plan.specs.Steps.{Plan}
 use Rattle.step_outcome.specs.Carry.{Lent, Done}
 use Rattle.law_plans_sound.specs.Plans.{RestUnchanged}
 use Rattle.call_plans.specs.Calls.{Call, plan_for, promised, Lends}
@@ -53,8 +53,8 @@ pub call_settings : (c : Call) (l : Lent) → Lends c l → SameSettings l.table
 call_settings c l lends = go (plan_for c l) refl
   where
     go : (plan : Plan) → plan_for c l ≡ plan → SameSettings l.table (promised c l).table
-    go (Refuse r) q = let u = call_refused c l r q in record { settings = ap settings_of u.table; count_same = ap count u.table }
-    go (Go step) q =
+    go (Err r) q = let u = call_refused c l r q in record { settings = ap settings_of u.table; count_same = ap count u.table }
+    go (Ok step) q =
         let k : RestUnchanged l (promised c l) step = call_keeps c l step lends (call_ways c l step q).fits q in
         record { settings = k.table.settings; count_same = rw k.table.same_length refl }
 
@@ -99,8 +99,8 @@ call_stays_off e p m = go (plan_for e.call e.lent) refl
     same = subst (λ (d : Done). SameSettings (before e) d.table) (sym p.keeps) (call_settings e.call e.lent p.lends)
 
     go : (plan : Plan) → plan_for e.call e.lent ≡ plan → ModeOff (after e)
-    go (Refuse r) q = subst ModeOff (sym (ap (λ (d : Done). d.table) p.keeps ∙ (call_refused e.call e.lent r q).table)) m
-    go (Go step) q = record { settings = ap (λ (s : Settings). s.limit) same.settings ∙ m.settings; records = λ j inside. move_none e m (moves e p step q) j (rw same.count_same at inside) }
+    go (Err r) q = subst ModeOff (sym (ap (λ (d : Done). d.table) p.keeps ∙ (call_refused e.call e.lent r q).table)) m
+    go (Ok step) q = record { settings = ap (λ (s : Settings). s.limit) same.settings ∙ m.settings; records = λ j inside. move_none e m (moves e p step q) j (rw same.count_same at inside) }
 
 -- MODE OFF KEPT: over any calls, in any order, refused ones among them, it stays off, and each call gives and leaves what the base's engine gives and leaves
 pub mode_off_kept : {t₀ s₀ t s : List ℕ} {h : List Entry} → ModeOff t₀ → Run t₀ s₀ t s h → StaysOff t h
@@ -115,9 +115,9 @@ mode_off_kept m (Run.called {h = h} run e p tab sto) =
 pub none_live_off : (t : List ℕ) → (settings_of t).limit ≡ 0 → ((i : ℕ) → Live (record_at t i) → ⊥) → ModeOff t
 none_live_off t e none = record { settings = e; records = λ i inside live. absurd (none i live) }
 
-module _ (old ws : List ℕ) (first : ℕ) (made : fresh_answer (length old) ws first ≡ Made) where
+module _ (old ws : List ℕ) (first : ℕ) (made : fresh_answer (length old) ws first ≡ Ok tt) where
   abbrev fresh : List ℕ
-  fresh = table_after_fresh Made old ws first
+  fresh = table_after_fresh (Ok tt) old ws first
 
   a : AllInRange ws first
   a = in_range_holds ws first (accepted (length old) ws first made).1
@@ -134,6 +134,6 @@ module _ (old ws : List ℕ) (first : ℕ) (made : fresh_answer (length old) ws 
   fresh_mode_off mode = fresh_off (fresh_limit ∙ no_limit ws first mode a.modes)
 
 -- from a table made fresh with mode 0
-pub mode_off_holds : (old settings : List ℕ) (first : ℕ) → fresh_answer (length old) settings first ≡ Made → get_or settings 22 0 ≡ 0
-    → {s₀ t s : List ℕ} {h : List Entry} → Run (table_after_fresh Made old settings first) s₀ t s h → StaysOff t h
+pub mode_off_holds : (old settings : List ℕ) (first : ℕ) → fresh_answer (length old) settings first ≡ Ok tt → get_or settings 22 0 ≡ 0
+    → {s₀ t s : List ℕ} {h : List Entry} → Run (table_after_fresh (Ok tt) old settings first) s₀ t s h → StaysOff t h
 mode_off_holds old settings first made mode run = mode_off_kept (fresh_mode_off old settings first made mode) run

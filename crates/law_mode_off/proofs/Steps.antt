@@ -2,6 +2,7 @@
 use Prim.Native.Nat.{ℕ, ◌<◌}
 use mathlib.Core.Path.{◌≡◌, refl}
 use mathlib.Core.List.{List}
+use Rattle.std.specs.Prelude.{Option}
 use Rattle.table_layout.specs.Table.{count, settings_of, intervals_of, record_at}
 use Rattle.table_record_ok.specs.OneRecord.{Live}
 use Rattle.row_events.specs.declared.Event.{Event}
@@ -10,7 +11,7 @@ use Rattle.row_entries.specs.Acts.{act_of, opening_act}
 use Rattle.row_turns.specs.Turns.{new_record, row_turn, opening_turn}
 use Rattle.row_turns.specs.declared.Given.{Given}
 use Rattle.law_rows_done.proofs.SameActs.{acts_are_listed, opening_acts_are_listed}
-use Rattle.step_commit.specs.declared.GenTidChange.{GenTidChange}
+use Rattle.step_commit.specs.declared.GenTid.{GenTid}
 use Rattle.step_plan.specs.declared.Holder.{Holder}
 use Rattle.step_plan.specs.declared.Call.{Call}
 use Rattle.step_live.specs.Turning.{row_at, live_turn, live_step}
@@ -52,7 +53,7 @@ module _ (t : List ℕ) (off : ModeOff t) where
       rw (opening_acts_are_listed opening)
       (turn_same g (settings_of t) (intervals_of t) (new_record h.peer h.tid h.up h.tidnew) off.settings (new_limit h.peer h.tid h) _)
 
-  pub mode_off_opening : (opening : Opening) (h : Holder) (g : Given) (gen_tid : GenTidChange) (c : Call) → opening_step t opening h g gen_tid c ≡ base_opening_step t opening h g gen_tid c
+  pub mode_off_opening : (opening : Opening) (h : Holder) (g : Given) (gen_tid : Option GenTid) (c : Call) → opening_step t opening h g gen_tid c ≡ base_opening_step t opening h g gen_tid c
   unfolding opening_step base_opening_step
   mode_off_opening opening h g gen_tid c = rw (mode_off_opened opening h g) refl
 

@@ -1,5 +1,5 @@
 -- The base's engine, before the waiting limit (02, L6): the turn and the step of a row, from document 01's lists and from definitions that L6 left alone.
-use Rattle.std.specs.Prelude.{ℕ, ◌+◌, false, List}
+use Rattle.std.specs.Prelude.{ℕ, ◌+◌, false, List, Option}
 use Rattle.table_record.specs.Record.{class_of, sent_most}
 use Rattle.table_record.specs.declared.State.{State}
 use Rattle.table_record.specs.declared.Record.{Record}
@@ -21,7 +21,7 @@ use Rattle.row_turns.specs.declared.Turn.{Turn}
 use Rattle.law_rows_listed.specs.Document.{base_row}
 use Rattle.law_rows_done.specs.LiveRows.{document_act}
 use Rattle.law_rows_done.specs.OpeningRows.{document_opening_act}
-use Rattle.step_commit.specs.declared.GenTidChange.{GenTidChange}
+use Rattle.step_commit.specs.declared.GenTid.{GenTid}
 use Rattle.step_changes.specs.Changes.{turn_changes}
 use Rattle.step_plan.specs.Steps.{step_of}
 use Rattle.step_plan.specs.declared.Holder.{Holder}
@@ -100,6 +100,6 @@ base_live_step t place event g c =
     c
 
 -- 01, "Events": the whole step of an opening
-unfoldable pub base_opening_step : List ℕ → Opening → Holder → Given → GenTidChange → Call → Step
+unfoldable pub base_opening_step : List ℕ → Opening → Holder → Given → Option GenTid → Call → Step
 base_opening_step t opening h g gen_tid c =
     step_of (base_opened t opening h g) (opening_changes (base_opened t opening h g) h (cached_of t h.peer) gen_tid g.time) h c

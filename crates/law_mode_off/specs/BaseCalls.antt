@@ -1,28 +1,20 @@
 -- The base's engine, before the waiting limit (02, L6): the calls. Their refusals and what they find are definitions that L6 left alone, but for two: number 9 of a primitive is by the base's row here, and of number 1 `fits_as_before` says that its test is the base's condition.
-use Rattle.std.specs.Prelude.{ℕ, ◌%◌, Bool, false, not, List, [], ◌∷◌, ◌++◌, length}
+use Rattle.std.specs.Prelude.{ℕ, ◌%◌, Bool, false, not, List, [], ◌∷◌, ◌++◌, length, None, Option, Some, is_some, Ok, Err}
 use Rattle.base_layout.specs.Layout.{peers}
 use Rattle.base_lists.specs.Seq.{put}
 use Rattle.base_numbers.specs.declared.Refusal.TheVariants.{TooLong, NoRecord, NotAllowed}
 use Rattle.codec_reading.specs.Read.{pdu_of}
 use Rattle.table_record.specs.declared.Role.{Role}
 use Rattle.table_layout.specs.Table.{count}
-use Rattle.table_finding.specs.Finding.{is_found, named_of, free_of, due_of}
-use Rattle.table_finding.specs.declared.Found.{Found}
-use Rattle.table_finding.specs.declared.Found.TheVariants as Found
+use Rattle.table_finding.specs.Finding.{named_of, free_of, due_of}
 use Rattle.row_events.specs.declared.Event.{Event}
 use Rattle.row_events.specs.declared.Event.TheVariants as Event
 use Rattle.row_choice.specs.Rows.{requested_of}
 use Rattle.step_arrivals.specs.Arrivals.{name_of, event_of}
-use Rattle.step_arrivals.specs.declared.Name.{Name}
-use Rattle.step_arrivals.specs.declared.Name.TheVariants.{Nobody, Of}
-use Rattle.step_commit.specs.declared.GenTidChange.TheVariants.{Unchanged}
-use Rattle.step_plan.specs.Steps.{idle_step}
+use Rattle.step_plan.specs.Steps.{idle_step, Plan}
 use Rattle.step_plan.specs.declared.Step.{Step}
-use Rattle.step_plan.specs.declared.Plan.{Plan}
-use Rattle.step_plan.specs.declared.Plan.TheVariants.{Refuse, Go}
 use Rattle.step_opening.specs.Opens.{place_for}
 use Rattle.step_outcome.specs.Carry.{Lent, Done, done, octets_out, store_then, taken_of}
-use Rattle.step_outcome.specs.declared.Answer.TheVariants.{Refused}
 use Rattle.call_refusal.specs.Judging.{Test, test, lowest, plan_by}
 use Rattle.call_request.specs.Requests.{request_tests, requester, counted_by, request_given, request_call}
 use Rattle.call_request.specs.declared.Request.{Request}
@@ -44,15 +36,15 @@ base_request_plan t store output q =
     (base_opening_step t (requested_of (q.class % 256)) (requester t (place_for (free_of t (count t))) q) (request_given q) (counted_by t q) (request_call q))
 
 -- 01: "a primitive without [a row] gets 9"
-unfoldable pub base_not_allowed : List ℕ → Found → Event → Bool
-base_not_allowed t (Found.At i) event = refuses_row (base_row_at t i event)
-base_not_allowed t Found.Nothing event = false
+unfoldable pub base_not_allowed : List ℕ → Option ℕ → Event → Bool
+base_not_allowed t (Some i) event = refuses_row (base_row_at t i event)
+base_not_allowed t None event = false
 
 -- 01, "Numbers given back": numbers 4, 8, 9, of the record that is named
-abbrev pub base_found_tests : List ℕ → Found → Primitive → List Test
+abbrev pub base_found_tests : List ℕ → Option ℕ → Primitive → List Test
 base_found_tests t found p =
     test TooLong (too_much_is t p found)
-    ∷ test NoRecord (not (is_found found))
+    ∷ test NoRecord (not (is_some found))
     ∷ test NotAllowed (base_not_allowed t found p.event)
     ∷ []
 
@@ -62,24 +54,24 @@ base_primitive_plan t store output p =
     plan_by (lowest (entry_tests t store output p ++ base_found_tests t (found_for t p) p)) (base_live_step t (place_for (found_for t p)) p.event (primitive_given p) (primitive_call p))
 
 -- 01, "Events": a PDU to the live record that it names, or without one
-abbrev pub base_taken : Found → List ℕ → Role → (peer tid time : ℕ) → List ℕ → Step
-base_taken (Found.At i) t role peer tid time s = base_live_step t i (event_of (pdu_of s).kind) (taken_given time (pdu_of s)) (taken_call (pdu_of s))
-base_taken Found.Nothing t role peer tid time s =
-    base_opening_step t (arrival_opening t peer tid s (pdu_of s)) (arriver_of (place_for (free_of t (count t))) role peer tid (pdu_of s).kind) (opened_given time (pdu_of s)) Unchanged (opened_call (pdu_of s))
+abbrev pub base_taken : Option ℕ → List ℕ → Role → (peer tid time : ℕ) → List ℕ → Step
+base_taken (Some i) t role peer tid time s = base_live_step t i (event_of (pdu_of s).kind) (taken_given time (pdu_of s)) (taken_call (pdu_of s))
+base_taken None t role peer tid time s =
+    base_opening_step t (arrival_opening t peer tid s (pdu_of s)) (arriver_of (place_for (free_of t (count t))) role peer tid (pdu_of s).kind) (opened_given time (pdu_of s)) None (opened_call (pdu_of s))
 
 -- 01, "TIDs": "a shorter one names none"
-abbrev pub base_received : Name → List ℕ → (time peer : ℕ) → List ℕ → Step
-base_received Nobody t time peer s = idle_step time
-base_received (Of role tid) t time peer s = base_taken (named_of t (count t) role peer tid) t role peer tid time s
+abbrev pub base_received : Option (Role × ℕ) → List ℕ → (time peer : ℕ) → List ℕ → Step
+base_received None t time peer s = idle_step time
+base_received (Some (role, tid)) t time peer s = base_taken (named_of t (count t) role peer tid) t role peer tid time s
 
 -- 01, "Events": the PDU that was received
 unfoldable pub base_receive_plan : List ℕ → (store output time peer : ℕ) → List ℕ → Plan
 base_receive_plan t store output time peer s = plan_by (lowest (receive_tests t store output time peer (length s))) (base_received (name_of s) t time (peer % peers) s)
 
 -- 01: the timer call "fires the due record [..] or says none is due"
-abbrev pub base_fired : Found → List ℕ → (time : ℕ) → Step
-base_fired (Found.At i) t time = base_live_step t i Event.Timer (fired_given time) fired_call
-base_fired Found.Nothing t time = idle_step time
+abbrev pub base_fired : Option ℕ → List ℕ → (time : ℕ) → Step
+base_fired (Some i) t time = base_live_step t i Event.Timer (fired_given time) fired_call
+base_fired None t time = idle_step time
 
 -- 01, "Events": the timer call
 unfoldable pub base_timer_plan : List ℕ → (store output time : ℕ) → Plan
@@ -108,8 +100,8 @@ base_carried_out l step =
 
 -- 01: "A refusal gives only its number and changes no lent byte"
 unfoldable pub base_outcome : Lent → Plan → Done
-base_outcome l (Refuse r) = done (Refused r) l.table l.store l.output
-base_outcome l (Go step) = base_carried_out l step
+base_outcome l (Err r) = done (Err r) l.table l.store l.output
+base_outcome l (Ok step) = base_carried_out l step
 
 -- 01, "Numbers given back": what the base's call gives and leaves: its plan, carried out
 unfoldable pub base_promised : Call → Lent → Done

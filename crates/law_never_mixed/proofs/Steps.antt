@@ -3,6 +3,7 @@ use Prim.Native.Nat.{ℕ}
 use mathlib.Core.Path.{◌≡◌, refl, ◌∙◌}
 use mathlib.Core.List.{List}
 use mathlib.Core.Bool.{false, ◌&&◌, ◌||◌}
+use Rattle.std.specs.Prelude.{Option}
 use Rattle.table_layout.specs.Table.{settings_of, record_at}
 use Rattle.row_events.specs.declared.Event.{Event}
 use Rattle.row_events.specs.declared.Opening.{Opening}
@@ -15,7 +16,7 @@ use Rattle.law_rows.proofs.Rows.{abort_is_no_result, result_exactly, opening_sho
 use Rattle.row_turns.specs.Turns.{turn_of, row_turn, opening_turn}
 use Rattle.row_turns.specs.declared.Given.{Given}
 use Rattle.row_turns.specs.declared.Turn.{Turn}
-use Rattle.step_commit.specs.declared.GenTidChange.{GenTidChange}
+use Rattle.step_commit.specs.declared.GenTid.{GenTid}
 use Rattle.step_commit.specs.declared.Changes.{Changes}
 use Rattle.step_shown.specs.Shows.{shown_of}
 use Rattle.step_shown.specs.declared.Context.{Context}
@@ -74,7 +75,7 @@ module _ (t : List ℕ) (place : ℕ) (event : Event) (g : Given) (c : Call) whe
   pub live_result_exactly : step_results_is (live_step t place event g c) ≡ takes_result (record_at t place).state event
   live_result_exactly = live_results ∙ result_exactly g.kind g.reason (record_at t place).tidok_sent (record_at t place).state event _
 
-module _ (t : List ℕ) (opening : Opening) (h : Holder) (g : Given) (gen_tid : GenTidChange) (c : Call) where
+module _ (t : List ℕ) (opening : Opening) (h : Holder) (g : Given) (gen_tid : Option GenTid) (c : Call) where
   -- what comes without a live record shows neither
   pub opening_neither : step_aborts (opening_step t opening h g gen_tid c) || step_results_is (opening_step t opening h g gen_tid c) ≡ false
   unfolding opening_step opened_turn opening_turn turn_of

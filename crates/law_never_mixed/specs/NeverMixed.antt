@@ -1,10 +1,9 @@
 -- 01, "Mix-ups that cost us": "An abort shown as a result without data. A Result with no data is a true result."
-use Rattle.std.specs.Prelude.{Bool, true, false, ◌||◌}
+use Rattle.std.specs.Prelude.{Bool, true, false, ◌||◌, Ok, Err}
 use Rattle.step_shown.specs.Kinds.{by_kind}
 use Rattle.step_shown.specs.declared.Shown.{Shown}
 use Rattle.step_plan.specs.declared.Step.{Step}
-use Rattle.step_outcome.specs.declared.Answer.{Answer}
-use Rattle.step_outcome.specs.declared.Answer.TheVariants.{Refused, Taken}
+use Rattle.step_outcome.specs.Carry.{Answer}
 
 -- whether what is shown is an abort, or a result
 abbrev pub abort_shown : Shown → Bool
@@ -22,9 +21,9 @@ step_results_is step = result_shown step.first || result_shown step.second
 
 -- whether a call's answer shows one
 abbrev pub shows_abort : Answer → Bool
-shows_abort (Refused r) = false
-shows_abort (Taken sent told first second) = abort_shown first || abort_shown second
+shows_abort (Err r) = false
+shows_abort (Ok a) = abort_shown a.first || abort_shown a.second
 
 abbrev pub shows_result : Answer → Bool
-shows_result (Refused r) = false
-shows_result (Taken sent told first second) = result_shown first || result_shown second
+shows_result (Err r) = false
+shows_result (Ok a) = result_shown a.first || result_shown a.second

@@ -3,16 +3,15 @@ use Prim.Native.Nat.{ℕ}
 use mathlib.Core.Path.{◌≡◌, refl, sym, ◌∙◌}
 use mathlib.Core.Bool.{true}
 use mathlib.Core.Logic.{inl, inr}
+use Rattle.std.specs.Prelude.{Ok}
 use Rattle.base_lists.proofs.StoresAndParts.{true_false}
 use Rattle.table_record.specs.Record.{role_of}
 use Rattle.table_layout.specs.Table.{record_at}
 use Rattle.step_plan.specs.Steps as Steps
 use Rattle.step_plan.specs.declared.Step.{Step}
-use Rattle.step_plan.specs.declared.Plan.TheVariants.{Go}
 use Rattle.step_plan.specs.declared.Told.TheVariants as Told
 use Rattle.step_live.specs.Turning.{holder_of, live_turn, live_step}
-use Rattle.step_outcome.specs.Carry.{Lent, carried_out}
-use Rattle.step_outcome.specs.declared.Answer.{Answer}
+use Rattle.step_outcome.specs.Carry.{Lent, carried_out, Answer}
 use Rattle.call_plans.specs.Calls.{Call, plan_for}
 use Rattle.call_plans.specs.Concerns.{Concerns, fires}
 use Rattle.law_steps_sound.specs.Sound.{Fits, Sound}
@@ -50,7 +49,7 @@ module _ (c : Call) (l : Lent) (f : Fits l) (step : Step) (k : Lived c l step) w
   its_told (inl (f, e)) fired = rw e refl
   its_told (inr (f, e)) fired = true_false (sym fired ∙ f)
 
-  pub lived_turned : plan_for c l ≡ Go its → Sound l its → Turned (entry_of c l its)
+  pub lived_turned : plan_for c l ≡ Ok its → Sound l its → Turned (entry_of c l its)
   lived_turned plan ok =
       turned c l k.place k.event k.given k.asked f k.live k.given_ok ok (its_peer k.known) (λ n. rw k.no_request refl) plan (meant_by c l k.place _ k.concerns (its_told k.known))
 

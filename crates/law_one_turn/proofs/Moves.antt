@@ -6,6 +6,7 @@ use mathlib.Core.List.{List}
 use mathlib.Core.Logic.{◌⊎◌, inl, inr}
 use lib.ListN.{length}
 use lib.Dec.{eqb}
+use Rattle.std.specs.Prelude.{Option, Some, None, is_some, Ok}
 use Rattle.base_lists.specs.Seq.{pick}
 use Rattle.base_lists.proofs.StoresAndParts.{true_false}
 use Rattle.codec_pdu.specs.declared.Pdu.{Pdu}
@@ -14,9 +15,7 @@ use Rattle.table_record.specs.Record.{state_number}
 use Rattle.table_record.specs.declared.Role.{Role}
 use Rattle.table_record.specs.declared.Record.{Record}
 use Rattle.table_layout.specs.Table.{count}
-use Rattle.table_finding.specs.Finding.{is_found, named_of}
-use Rattle.table_finding.specs.declared.Found.{Found}
-use Rattle.table_finding.specs.declared.Found.TheVariants.{At, Nothing}
+use Rattle.table_finding.specs.Finding.{named_of}
 use Rattle.step_commit.specs.declared.Change.{Change}
 use Rattle.step_commit.specs.declared.Change.TheVariants as Change
 use Rattle.step_changes.specs.Changes.{change_of, turn_changes}
@@ -28,7 +27,6 @@ use Rattle.call_receive.specs.Receives.{taken_step}
 use Rattle.call_receive.proofs.Accepted.{receive_accepted}
 use Rattle.call_receive.proofs.Dispatch.{live_takes}
 use Rattle.step_plan.specs.declared.Step.{Step}
-use Rattle.step_plan.specs.declared.Plan.TheVariants.{Go}
 use Rattle.step_outcome.specs.Carry.{Lent, Done, carried_out, outcome}
 use Rattle.call_plans.specs.Calls.{Call, time_of, plan_for, promised}
 use Rattle.law_steps_sound.specs.Sound.{Fits, Sound}
@@ -80,7 +78,7 @@ nothing_told role peer tid e = true_false (ap is_nothing e)
     is_nothing (Told.Tid i) = false
     is_nothing (Told.Fired r p i) = false
 
-idle_unmeant : (c : Call) (l : Lent) (step : Step) → Idle c step → plan_for c l ≡ Go step → Unmeant c l (idle_step (time_of c))
+idle_unmeant : (c : Call) (l : Lent) (step : Step) → Idle c step → plan_for c l ≡ Ok step → Unmeant c l (idle_step (time_of c))
 unfolding carried_out idle_step
 idle_unmeant (Call.Request time peer class user_ack) l step i plan n m = true_false i.no_request
 idle_unmeant (Call.Answer time role peer tid) l step i plan n m = true_false i.no_primitive
@@ -91,15 +89,15 @@ idle_unmeant (Call.Receive time peer) l step i plan n (names, is) = rw is (go (n
     t : List ℕ
     t = l.table
 
-    go : (f : Found) → named_of t (count t) n.role peer n.tid ≡ f → is_found (named_of t (count t) n.role peer n.tid) ≡ false
-    go (At k) q =
+    go : (f : Option ℕ) → named_of t (count t) n.role peer n.tid ≡ f → is_some (named_of t (count t) n.role peer n.tid) ≡ false
+    go (Some k) q =
         let a = receive_accepted t (length l.store) (length l.output) time peer l.given step plan in
         absurd (taken_changes t k time (pdu_of l.given) (sym (live_takes t time peer l.given n.role n.tid k names q) ∙ sym a.step_is ∙ i.step_is))
-    go Nothing q = rw q refl
+    go None q = rw q refl
 idle_unmeant (Call.Timer time) l step i plan n m = absurd (nothing_told n.role n.peer n.tid m)
 idle_unmeant (Call.Fire time role peer tid) l step i plan n m = absurd (nothing_told n.role n.peer n.tid m)
 
-of_way : (c : Call) (l : Lent) → Fits l → (step : Step) → Way c l step → plan_for c l ≡ Go step → Sound l step → Move (entry_of c l step)
+of_way : (c : Call) (l : Lent) → Fits l → (step : Step) → Way c l step → plan_for c l ≡ Ok step → Sound l step → Move (entry_of c l step)
 of_way c l f step (inl i) plan ok = rw i.step_is (inl (idle c l (time_of c) f (rw i.step_is at ok) (λ n. rw i.no_request refl) (rw i.step_is at plan) (idle_unmeant c l step i plan)))
 of_way c l f step (inr (inl k)) plan ok = rw k.step_is (inr (inl (lived_turned c l f step k (rw k.step_is at plan) (rw k.step_is at ok))))
 of_way c l f step (inr (inr (inl q))) plan ok = rw q.call_is (of_request _ (request_move l q.time q.peer q.class q.user_ack f step q.accepted (rw q.call_is at plan) ok))
@@ -107,11 +105,11 @@ of_way c l f step (inr (inr (inr u))) plan ok =
     rw (u.call_is, u.step_is) (of_unmatched _ (unmatched_move l u.time u.peer f step u.accepted u.unmatched (rw (u.call_is, u.step_is) at plan) (rw u.step_is at ok)))
 
 -- an accepted call's entry holds its step, carried out
-carried : (e : Entry) → Promise e → (step : Step) → plan_for e.call e.lent ≡ Go step → e.done ≡ carried_out e.lent step
+carried : (e : Entry) → Promise e → (step : Step) → plan_for e.call e.lent ≡ Ok step → e.done ≡ carried_out e.lent step
 unfolding promised outcome
 carried e p step go = p.keeps ∙ ap (outcome e.lent) go
 
-pub moves : (e : Entry) → Promise e → (step : Step) → plan_for e.call e.lent ≡ Go step → Move e
+pub moves : (e : Entry) → Promise e → (step : Step) → plan_for e.call e.lent ≡ Ok step → Move e
 unfolding PlanSound
 moves e p step go =
     let ok : Sound e.lent step = rw go at (call_sound e.call e.lent p.lends) in

@@ -5,15 +5,14 @@ use mathlib.Core.Bool.{true, false}
 use mathlib.Core.List.{List}
 use lib.Dec.{eqb}
 use borrow.Author.Tests.{eqb-true, eq-eqb}
+use Rattle.std.specs.Prelude.{Option, Some, None, is_some}
 use Rattle.base_lists.specs.Seq.{pick}
 use Rattle.base_lists.proofs.StoresAndParts.{true_false, both, both_fst, both_snd, not_so}
 use Rattle.table_record.specs.Record.{role_number}
 use Rattle.table_record.specs.declared.Role.{Role}
 use Rattle.table_record.specs.declared.Role.TheVariants.{Initiator, Responder}
 use Rattle.table_layout.specs.Table.{count, record_at}
-use Rattle.table_finding.specs.Finding.{is_found, named_of}
-use Rattle.table_finding.specs.declared.Found.{Found}
-use Rattle.table_finding.specs.declared.Found.TheVariants.{At, Nothing}
+use Rattle.table_finding.specs.Finding.{named_of}
 use Rattle.table_finding.specs.Searched.{Called, NoneOf}
 use Rattle.table_finding.proofs.Searches.{named_found, named_nothing}
 use Rattle.law_history.specs.Tally.{Name, is_named, lives}
@@ -54,16 +53,16 @@ module _ (t : List ℕ) (n : Name) where
   pub who_lives : lives t n ≡ true → CalledAt t n
   who_lives e = go (named_of t (count t) n.role n.peer n.tid) refl e
     where
-      go : (f : Found) → named_of t (count t) n.role n.peer n.tid ≡ f → is_found f ≡ true → CalledAt t n
-      go (At i) q h = let l = named_found t (count t) n.role n.peer n.tid i q in record { at = i; inside = l.below; called = l.is_so }
-      go Nothing q h = true_false (sym h)
+      go : (f : Option ℕ) → named_of t (count t) n.role n.peer n.tid ≡ f → is_some f ≡ true → CalledAt t n
+      go (Some i) q h = let l = named_found t (count t) n.role n.peer n.tid i q in record { at = i; inside = l.below; called = l.is_so }
+      go None q h = true_false (sym h)
 
   pub it_lives : CalledAt t n → lives t n ≡ true
   it_lives c = go (named_of t (count t) n.role n.peer n.tid) refl
     where
-      go : (f : Found) → named_of t (count t) n.role n.peer n.tid ≡ f → is_found f ≡ true
-      go (At i) q = refl
-      go Nothing q = absurd (named_nothing t (count t) n.role n.peer n.tid q c.at c.inside c.called)
+      go : (f : Option ℕ) → named_of t (count t) n.role n.peer n.tid ≡ f → is_some f ≡ true
+      go (Some i) q = refl
+      go None q = absurd (named_nothing t (count t) n.role n.peer n.tid q c.at c.inside c.called)
 
   pub none_lives : NoneOf (Called n.role n.peer n.tid) t (count t) → lives t n ≡ false
   none_lives none = not_so (lives t n) (λ e. let c = who_lives e in none c.at c.inside c.called)

@@ -6,6 +6,7 @@ use mathlib.Core.Bool.{Bool, true, false}
 use mathlib.Core.List.{List}
 use lib.Dec.{eqb}
 use borrow.Author.Tests.{ne_eqb}
+use Rattle.std.specs.Prelude.{Option, Ok}
 use Rattle.base_layout.specs.Layout.{tid_bound}
 use Rattle.base_lists.specs.Seq.{pick}
 use Rattle.table_record.specs.Record.{state_number}
@@ -23,10 +24,9 @@ use Rattle.row_turns.specs.Turns.{new_record, cost_of, record_after, turn_of, op
 use Rattle.row_turns.specs.declared.Given.{Given}
 use Rattle.row_turns.specs.declared.Turn.{Turn}
 use Rattle.step_commit.specs.declared.Change.TheVariants as Change
-use Rattle.step_commit.specs.declared.GenTidChange.{GenTidChange}
+use Rattle.step_commit.specs.declared.GenTid.{GenTid}
 use Rattle.step_changes.specs.Changes.{change_of}
 use Rattle.step_plan.specs.Steps.{message_of, step_of}
-use Rattle.step_plan.specs.declared.Plan.TheVariants.{Go}
 use Rattle.step_plan.specs.declared.Holder.{Holder}
 use Rattle.step_plan.specs.declared.Call.{Call as Asked}
 use Rattle.step_plan.specs.declared.Step.{Step}
@@ -50,7 +50,7 @@ use Rattle.law_one_turn.proofs.Counted.{entry_of, turn_charges, turn_weighs, tur
 use Rattle.law_one_turn.proofs.Openings.{CalledBy, called_name, not_opened, still_lived, same_lived}
 use Rattle.law_one_turn.proofs.Left.{left_put, left_others, left_same, left_count}
 
-module _ (call : Call) (l : Lent) (opening : Opening) (h : Holder) (g : Given) (gen_tid : GenTidChange) (c : Asked) where
+module _ (call : Call) (l : Lent) (opening : Opening) (h : Holder) (g : Given) (gen_tid : Option GenTid) (c : Asked) where
   abbrev t : List ℕ
   t = l.table
 
@@ -77,7 +77,7 @@ module _ (call : Call) (l : Lent) (opening : Opening) (h : Holder) (g : Given) (
     pub second : ClassShown h.class turn.second
     pub unused : NoneOf (Called h.role h.peer h.tid) t (count t)
     pub others_asked : (n : Name) → (n ≡ own → ⊥) → accepts_by call (told_of_is entry.done.answer) n ≡ false
-    pub plan : plan_for call l ≡ Go step
+    pub plan : plan_for call l ≡ Ok step
     pub meant : Meant entry own
 
   module _ (k : OpensFor) where
@@ -175,12 +175,12 @@ module _ (call : Call) (l : Lent) (opening : Opening) (h : Holder) (g : Given) (
       }
 
 -- an opening that ends changes no record
-pub ends_none : (t : List ℕ) (opening : Opening) (h : Holder) (g : Given) (gen_tid : GenTidChange) (c : Asked) → (opening_act opening).next ≡ Ends
+pub ends_none : (t : List ℕ) (opening : Opening) (h : Holder) (g : Given) (gen_tid : Option GenTid) (c : Asked) → (opening_act opening).next ≡ Ends
     → (opening_step t opening h g gen_tid c).changes.change ≡ Change.Nothing
 unfolding opening_step step_of opening_changes change_of opened_turn opening_turn turn_of record_after new_record
 ends_none t opening h g gen_tid c e = rw e refl
 
-module _ (call : Call) (l : Lent) (h : Holder) (g : Given) (gen_tid : GenTidChange) (c : Asked) (k : OpensFor call l Opening.Requested0 h g gen_tid c) where
+module _ (call : Call) (l : Lent) (h : Holder) (g : Given) (gen_tid : Option GenTid) (c : Asked) (k : OpensFor call l Opening.Requested0 h g gen_tid c) where
   one_invoke : turn_adds (opened_turn l.table Opening.Requested0 h g) ≡ requested 1 0 0
   unfolding opened_turn opening_turn turn_of opening_act act_with
   one_invoke = refl

@@ -4,6 +4,7 @@ use mathlib.Core.Path.{◌≡◌, refl, ap, ◌∙◌}
 use mathlib.Core.Bool.{Bool, true, false}
 use mathlib.Core.List.{[]}
 use lib.Dec.{eqb}
+use Rattle.std.specs.Prelude.{Option, Ok}
 use Rattle.base_layout.specs.Layout.{tid_bound}
 use Rattle.base_lists.specs.Seq.{pick, every}
 use Rattle.base_lists.proofs.StoresAndParts.{both_fst, both_snd}
@@ -20,14 +21,13 @@ use Rattle.row_turns.specs.declared.Given.{Given}
 use Rattle.row_turns.proofs.Costs.{costs_nothing}
 use Rattle.law_rows.proofs.Rows.{proper_opening}
 use Rattle.step_commit.specs.declared.Change.TheVariants as Change
-use Rattle.step_commit.specs.declared.GenTidChange.{GenTidChange}
+use Rattle.step_commit.specs.declared.GenTid.{GenTid}
 use Rattle.step_sending.specs.Octets.{octets_sent}
 use Rattle.step_shown.specs.Shows.{shown_of}
 use Rattle.step_plan.specs.Steps.{context_of, idle_changes, idle_step}
 use Rattle.step_plan.specs.declared.Holder.{Holder}
 use Rattle.step_plan.specs.declared.Call.{Call as Asked}
 use Rattle.step_plan.specs.declared.Step.{Step}
-use Rattle.step_plan.specs.declared.Plan.TheVariants.{Go}
 use Rattle.step_opening.specs.Opens.{opened_turn, opening_step}
 use Rattle.step_outcome.specs.Carry.{Lent, octets_out, sent_then, carried_out}
 use Rattle.c_answers.specs.Answers.{change_cost, cost_by}
@@ -52,7 +52,7 @@ Unmeant call l step = (n : Name) → Meant (entry_of call l step) n → lives l.
 
 -- where no record changes, nothing counts and nothing weighs
 still : (call : Call) (l : Lent) (step : Step) (f : Fits l) (ok : Sound l step) → ((n : Name) → accepts_by call (told_of_is (carried_out l step).answer) n ≡ false)
-    → plan_for call l ≡ Go step → Unmeant call l step → step.changes.change ≡ Change.Nothing → ((n : Name) → adds (entry_of call l step) n ≡ none) → ((n : Name) → charged (entry_of call l step) n ≡ 0) → Quiet (entry_of call l step)
+    → plan_for call l ≡ Ok step → Unmeant call l step → step.changes.change ≡ Change.Nothing → ((n : Name) → adds (entry_of call l step) n ≡ none) → ((n : Name) → charged (entry_of call l step) n ≡ 0) → Quiet (entry_of call l step)
 unfolding cost_told plan_cost cost_by change_cost
 still call l step f ok asked plan unmeant none counts weighs =
     let same : SameRecords (entry_of call l step) = left_same call l step f ok none in
@@ -81,7 +81,7 @@ module _ (call : Call) (l : Lent) (time : ℕ) (f : Fits l) (ok : Sound l (idle_
       let p : ℕ = peer_of call (carried_out l (idle_step time)).answer in
       step_charges call l (idle_step time) f ok n ∙ ap (length_for n p) nothing_sent ∙ no_weight n p
 
-  pub idle : ((n : Name) → accepts_by call (told_of_is (carried_out l (idle_step time)).answer) n ≡ false) → plan_for call l ≡ Go (idle_step time) → Unmeant call l (idle_step time) → Quiet (entry_of call l (idle_step time))
+  pub idle : ((n : Name) → accepts_by call (told_of_is (carried_out l (idle_step time)).answer) n ≡ false) → plan_for call l ≡ Ok (idle_step time) → Unmeant call l (idle_step time) → Quiet (entry_of call l (idle_step time))
   unfolding idle_step idle_changes
   idle asked plan unmeant = still call l (idle_step time) f ok asked plan unmeant refl idle_adds idle_weighs
 
@@ -96,7 +96,7 @@ opens_unsent o ends counts =
     (both_fst (is_plain (opening_act o).send) (eqb (cost_of (opening_act o).send 0) 0) both, both_snd (is_plain (opening_act o).send) (eqb (cost_of (opening_act o).send 0) 0) both)
 
 -- an opening that leaves no record
-module _ (call : Call) (l : Lent) (opening : Opening) (h : Holder) (g : Given) (gen_tid : GenTidChange) (c : Asked) (q : CountsNone h.class opening)
+module _ (call : Call) (l : Lent) (opening : Opening) (h : Holder) (g : Given) (gen_tid : Option GenTid) (c : Asked) (q : CountsNone h.class opening)
     (f : Fits l) (ok : Sound l (opening_step l.table opening h g gen_tid c)) (tid : h.tid ≤ tid_bound)
     (peer : peer_of call (carried_out l (opening_step l.table opening h g gen_tid c)).answer ≡ h.peer) where
   nothing_counts : (b : Bool) → plus (pick b (of_send (opening_act opening).send) none) (plus none none) ≡ none
@@ -122,5 +122,5 @@ module _ (call : Call) (l : Lent) (opening : Opening) (h : Holder) (g : Given) (
       ∙ pick_zero (is_named n h.role h.peer h.tid)
 
   pub ended : ((n : Name) → accepts_by call (told_of_is (carried_out l (opening_step l.table opening h g gen_tid c)).answer) n ≡ false)
-      → plan_for call l ≡ Go (opening_step l.table opening h g gen_tid c) → Unmeant call l (opening_step l.table opening h g gen_tid c) → Quiet (entry_of call l (opening_step l.table opening h g gen_tid c))
+      → plan_for call l ≡ Ok (opening_step l.table opening h g gen_tid c) → Unmeant call l (opening_step l.table opening h g gen_tid c) → Quiet (entry_of call l (opening_step l.table opening h g gen_tid c))
   ended asked plan unmeant = still call l _ f ok asked plan unmeant (ends_none l.table opening h g gen_tid c q.ends) ended_adds ended_weighs

@@ -5,6 +5,7 @@ use mathlib.Core.Path.{◌≡◌, refl, sym, ap, ◌∙◌}
 use mathlib.Core.List.{List}
 use mathlib.Core.Logic.{◌⊎◌, inl, inr}
 use lib.ListN.{length}
+use Rattle.std.specs.Prelude.{None, Option, Some, Ok}
 use Rattle.call_receive.proofs.Identity.{identity_fine}
 use Rattle.table_record.specs.Record.{state_number, role_number}
 use Rattle.table_record.specs.declared.Role.{Role}
@@ -19,13 +20,9 @@ use Rattle.row_events.specs.declared.Opening.{Opening}
 use Rattle.row_columns.specs.declared.Next.TheVariants.{Ends}
 use Rattle.row_entries.specs.Acts.{opening_act}
 use Rattle.step_arrivals.specs.Arrivals.{tid_of, name_of, wanted_of}
-use Rattle.step_arrivals.specs.declared.Name.{Name as Bearer}
-use Rattle.step_arrivals.specs.declared.Name.TheVariants.{Nobody, Of}
-use Rattle.step_commit.specs.declared.GenTidChange.TheVariants.{Unchanged}
 use Rattle.step_plan.specs.Steps as Steps
 use Rattle.step_plan.specs.declared.Holder.{Holder}
 use Rattle.step_plan.specs.declared.Step.{Step}
-use Rattle.step_plan.specs.declared.Plan.TheVariants.{Go}
 use Rattle.step_opening.specs.Opens.{place_for, opened_turn, opening_step}
 use Rattle.call_receive.specs.Receives.{arriver_of, opened_given, opened_call, opened_step, arrival_opening, unmatched_step}
 use Rattle.call_receive.proofs.Accepted.{Accepted}
@@ -46,12 +43,12 @@ use Rattle.law_one_turn.proofs.Opened.{OpensFor, lives_then, opened}
 use Rattle.law_one_turn.proofs.Arrivals.{CountsNone, OpensRecord, arrival}
 use Rattle.law_one_turn.proofs.Quiet.{Unmeant, ended}
 
-same_tid : (n : Bearer) (r r' : Role) (i i' : ℕ) → n ≡ Of r i → n ≡ Of r' i' → i ≡ i'
+same_tid : (n : Option (Role × ℕ)) (r r' : Role) (i i' : ℕ) → n ≡ Some (r, i) → n ≡ Some (r', i') → i ≡ i'
 same_tid n r r' i i' e e' = ap tid_in (sym e ∙ e')
   where
-    tid_in : Bearer → ℕ
-    tid_in Nobody = i
-    tid_in (Of x j) = j
+    tid_in : Option (Role × ℕ) → ℕ
+    tid_in None = i
+    tid_in (Some (x, j)) = j
 
 module _ (l : Lent) (time peer : ℕ) (f : Fits l) (step : Step) (a : Accepted l.table (length l.store) (length l.output) time peer l.given step) where
   abbrev call : Call
@@ -71,7 +68,7 @@ module _ (l : Lent) (time peer : ℕ) (f : Fits l) (step : Step) (a : Accepted l
     holder = arriver_of (place_for (free_of t (count t))) u.role peer u.tid p.kind
 
     abbrev itsStep : Step
-    itsStep = opening_step t opening holder (opened_given time p) Unchanged (opened_call p)
+    itsStep = opening_step t opening holder (opened_given time p) None (opened_call p)
 
     -- the answer tells nothing
     its_peer : peer_of call (carried_out l itsStep).answer ≡ peer
@@ -89,18 +86,18 @@ module _ (l : Lent) (time peer : ℕ) (f : Fits l) (step : Step) (a : Accepted l
         let tid : n.tid ≡ u.tid = same_tid (name_of l.given) n.role u.role n.tid u.tid names u.names in
         none_lives t n (rw (role, is, tid) u.none)
 
-    nothing_opened : plan_for call l ≡ Go itsStep → Sound l itsStep → CountsNone holder.class opening → Quiet (entry_of call l itsStep)
+    nothing_opened : plan_for call l ≡ Ok itsStep → Sound l itsStep → CountsNone holder.class opening → Quiet (entry_of call l itsStep)
     unfolding arriver_of
-    nothing_opened plan ok q = ended call l opening holder (opened_given time p) Unchanged (opened_call p) q f ok u.bound its_peer (λ n. refl) plan unmeant
+    nothing_opened plan ok q = ended call l opening holder (opened_given time p) None (opened_call p) q f ok u.bound its_peer (λ n. refl) plan unmeant
 
-    record_opened : plan_for call l ≡ Go itsStep → Sound l itsStep → OpensRecord holder.class opening → ((opening_act opening).next ≡ Ends) ⊎ Opens t l.given → Opened (entry_of call l itsStep)
+    record_opened : plan_for call l ≡ Ok itsStep → Sound l itsStep → OpensRecord holder.class opening → ((opening_act opening).next ≡ Ends) ⊎ Opens t l.given → Opened (entry_of call l itsStep)
     unfolding arriver_of opened_turn
     record_opened plan ok o (inl ends) = absurd (ends_free opening t holder (opened_given time p) ends (o.lives _ _ _ _))
     record_opened plan ok o (inr there) =
         let role : u.role ≡ Responder = same_role (name_of l.given) u.role Responder u.tid (tid_of l.given) u.names there.invokes in
         let inside : place_for (free_of t (count t)) < count t = free_place_holds t f.formed in
         let live : 1 ≤ state_number (opened_turn t opening holder (opened_given time p)).after.state = o.lives _ _ _ _ in
-        let k : OpensFor call l opening holder (opened_given time p) Unchanged (opened_call p) = record {
+        let k : OpensFor call l opening holder (opened_given time p) None (opened_call p) = record {
           fits = f;
           sound = ok;
           tid = u.bound;
@@ -113,12 +110,12 @@ module _ (l : Lent) (time peer : ℕ) (f : Fits l) (step : Step) (a : Accepted l
           plan = plan;
           meant = (u.names, refl);
         } in
-        opened call l opening holder (opened_given time p) Unchanged (opened_call p) k live its_given inside (free_found t (count t) _ there.free).is_so
+        opened call l opening holder (opened_given time p) None (opened_call p) k live its_given inside (free_found t (count t) _ there.free).is_so
         (is_opened (entry_of call l itsStep) (name u.role peer u.tid) role (none_lives t (name u.role peer u.tid) u.none)
-        (lives_then call l opening holder (opened_given time p) Unchanged (opened_call p) k live inside))
+        (lives_then call l opening holder (opened_given time p) None (opened_call p) k live inside))
         (λ asks. absurd (omega (arith, ap role_number (sym role ∙ asks))))
 
-    pub unmatched_move : plan_for call l ≡ Go (unmatched_step t u.role peer u.tid time l.given p) → Sound l (unmatched_step t u.role peer u.tid time l.given p) → let e : Entry = entry_of call l (unmatched_step t u.role peer u.tid time l.given p) in Quiet e ⊎ Opened e
+    pub unmatched_move : plan_for call l ≡ Ok (unmatched_step t u.role peer u.tid time l.given p) → Sound l (unmatched_step t u.role peer u.tid time l.given p) → let e : Entry = entry_of call l (unmatched_step t u.role peer u.tid time l.given p) in Quiet e ⊎ Opened e
     unfolding unmatched_step opened_step arriver_of
     unmatched_move plan ok = go (arrival t peer u.tid l.given p)
       where

@@ -8,6 +8,7 @@ use mathlib.Core.Logic.{◌⊎◌, inl, inr}
 use lib.ListN.{length}
 use lib.Dec.{eqb}
 use borrow.Author.Tests.{eqb-true, eqb-false}
+use Rattle.std.specs.Prelude.{Ok}
 use Rattle.table_ranges.specs.Ranges.{none as no-identity}
 use Rattle.base_layout.specs.Layout.{peers}
 use Rattle.base_lists.specs.Seq.{pick}
@@ -29,7 +30,6 @@ use Rattle.row_turns.specs.Turns.{cost_of, moved_to, record_after, turn_of, open
 use Rattle.step_sending.specs.Sending.{source_of}
 use Rattle.step_plan.specs.Steps as Steps
 use Rattle.step_plan.specs.declared.Step.{Step}
-use Rattle.step_plan.specs.declared.Plan.TheVariants.{Go}
 use Rattle.step_opening.specs.Opens.{opened_turn, opening_step}
 use Rattle.call_request.specs.Requests.{requester, counted_by, request_given, request_call, request_step}
 use Rattle.call_request.specs.declared.Request.{Request}
@@ -87,7 +87,7 @@ module _ (l : Lent) (time peer class : ℕ) (user_ack : Bool) (f : Fits l) (a : 
   unfolding carried_out opening_step Steps.step_of Steps.told_of_is request_call requester
   its_meant o = (refl, (own_peer, refl))
 
-  known : (o : Opening) → AskedBy o → plan_for call l ≡ Go (stepWith o) → Sound l (stepWith o) → OpensFor call l o (requester t place q) (request_given q) (counted_by t q) (request_call q)
+  known : (o : Opening) → AskedBy o → plan_for call l ≡ Ok (stepWith o) → Sound l (stepWith o) → OpensFor call l o (requester t place q) (request_given q) (counted_by t q) (request_call q)
   unfolding requester opened_turn opening_turn turn_of
   known o k plan ok = record {
     fits = f;
@@ -119,23 +119,23 @@ module _ (l : Lent) (time peer class : ℕ) (user_ack : Bool) (f : Fits l) (a : 
       own_weighs call l o (requester t place q) (request_given q) (counted_by t q) (request_call q) k (rw e refl) ∙ rw e refl
 
   with_record : (o : Opening) → AskedBy o → (opening_act o).send ≡ Send.Invoke false → (live : Live (opened_turn t o (requester t place q) (request_given q)).after) → class_of (opened_turn t o (requester t place q) (request_given q)).after.state ≡ class
-      → plan_for call l ≡ Go (stepWith o) → Sound l (stepWith o) → place < count t → (record_at t place).state ≡ Free → Opened (entry_of call l (stepWith o))
+      → plan_for call l ≡ Ok (stepWith o) → Sound l (stepWith o) → place < count t → (record_at t place).state ≡ Free → Opened (entry_of call l (stepWith o))
   unfolding requester opened_turn opening_turn turn_of request_given
   with_record o k sends live is plan ok inside free =
       opened call l o (requester t place q) (request_given q) (counted_by t q) (request_call q) (known o k plan ok) live given_ok inside free (opens_own o)
       (λ role. record { class = is; data_len = refl; weighs = first_weighs o (known o k plan ok) sends })
 
-  without : class ≡ 0 → plan_for call l ≡ Go (stepWith Opening.Requested0) → Sound l (stepWith Opening.Requested0) → Once (entry_of call l (stepWith Opening.Requested0))
+  without : class ≡ 0 → plan_for call l ≡ Ok (stepWith Opening.Requested0) → Sound l (stepWith Opening.Requested0) → Once (entry_of call l (stepWith Opening.Requested0))
   unfolding requester opening_act act_with
   without zero plan ok =
       once call l (requester t place q) (request_given q) (counted_by t q) (request_call q)
       (known Opening.Requested0 (record { role = refl; first = refl; second = refl }) plan ok) (opens_own Opening.Requested0) zero
 
-  requested1 : class ≡ 1 → plan_for call l ≡ Go (stepWith Opening.Requested1) → Sound l (stepWith Opening.Requested1) → place < count t → (record_at t place).state ≡ Free → Opened (entry_of call l (stepWith Opening.Requested1))
+  requested1 : class ≡ 1 → plan_for call l ≡ Ok (stepWith Opening.Requested1) → Sound l (stepWith Opening.Requested1) → place < count t → (record_at t place).state ≡ Free → Opened (entry_of call l (stepWith Opening.Requested1))
   unfolding opened_turn opening_turn turn_of opening_act stored record_after moved_to
   requested1 is = with_record Opening.Requested1 (record { role = refl; first = refl; second = refl }) refl (omega arith) (sym is)
 
-  requested2 : class ≡ 2 → plan_for call l ≡ Go (stepWith Opening.Requested2) → Sound l (stepWith Opening.Requested2) → place < count t → (record_at t place).state ≡ Free → Opened (entry_of call l (stepWith Opening.Requested2))
+  requested2 : class ≡ 2 → plan_for call l ≡ Ok (stepWith Opening.Requested2) → Sound l (stepWith Opening.Requested2) → place < count t → (record_at t place).state ≡ Free → Opened (entry_of call l (stepWith Opening.Requested2))
   unfolding opened_turn opening_turn turn_of opening_act stored record_after moved_to
   requested2 is = with_record Opening.Requested2 (record { role = refl; first = refl; second = refl }) refl (omega arith) (sym is)
 
@@ -143,17 +143,17 @@ module _ (l : Lent) (time peer class : ℕ) (user_ack : Bool) (f : Fits l) (a : 
   not_zero e (inl z) = absurd (omega (arith, eqb-false (class % 256) 0 e))
   not_zero e (inr free) = free
 
-  its_move : class ≤ 2 → place < count t → (class ≡ 0) ⊎ ((record_at t place).state ≡ Free) → plan_for call l ≡ Go (request_step t place q) → Sound l (request_step t place q) → Opened (entry_of call l (request_step t place q)) ⊎ Once (entry_of call l (request_step t place q))
+  its_move : class ≤ 2 → place < count t → (class ≡ 0) ⊎ ((record_at t place).state ≡ Free) → plan_for call l ≡ Ok (request_step t place q) → Sound l (request_step t place q) → Opened (entry_of call l (request_step t place q)) ⊎ Once (entry_of call l (request_step t place q))
   unfolding request_step requested_of
   its_move small inside free = go (eqb (class % 256) 0) (eqb (class % 256) 1) refl refl
     where
-      go : (b c : Bool) → eqb (class % 256) 0 ≡ b → eqb (class % 256) 1 ≡ c → plan_for call l ≡ Go (stepWith (pick b Opening.Requested0 (pick c Opening.Requested1 Opening.Requested2))) → Sound l (stepWith (pick b Opening.Requested0 (pick c Opening.Requested1 Opening.Requested2)))
+      go : (b c : Bool) → eqb (class % 256) 0 ≡ b → eqb (class % 256) 1 ≡ c → plan_for call l ≡ Ok (stepWith (pick b Opening.Requested0 (pick c Opening.Requested1 Opening.Requested2))) → Sound l (stepWith (pick b Opening.Requested0 (pick c Opening.Requested1 Opening.Requested2)))
           → Opened (entry_of call l (stepWith (pick b Opening.Requested0 (pick c Opening.Requested1 Opening.Requested2)))) ⊎ Once (entry_of call l (stepWith (pick b Opening.Requested0 (pick c Opening.Requested1 Opening.Requested2))))
       go true c e d plan ok = inr (without (omega (arith, small, eqb-true (class % 256) 0 e)) plan ok)
       go false true e d plan ok = inl (requested1 (omega (arith, small, eqb-true (class % 256) 1 d)) plan ok inside (not_zero e free))
       go false false e d plan ok = inl (requested2 (omega (arith, small, eqb-false (class % 256) 0 e, eqb-false (class % 256) 1 d)) plan ok inside (not_zero e free))
 
 pub request_move : (l : Lent) (time peer class : ℕ) (user_ack : Bool) → Fits l → (step : Step) → Accepted l.table (length l.store) (length l.output) (as_request time peer class user_ack (length l.given)) step
-    → plan_for (Call.Request time peer class user_ack) l ≡ Go step → Sound l step → Opened (entry_of (Call.Request time peer class user_ack) l step) ⊎ Once (entry_of (Call.Request time peer class user_ack) l step)
+    → plan_for (Call.Request time peer class user_ack) l ≡ Ok step → Sound l step → Opened (entry_of (Call.Request time peer class user_ack) l step) ⊎ Once (entry_of (Call.Request time peer class user_ack) l step)
 request_move l time peer class user_ack f step a plan ok =
     rw a.step_is (its_move l time peer class user_ack f a.admits (place_of l.table) a.admits.class_known a.inside a.place_free (rw a.step_is at plan) (rw a.step_is at ok))

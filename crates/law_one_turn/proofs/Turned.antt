@@ -7,6 +7,7 @@ use mathlib.Core.List.{List}
 use mathlib.Core.Logic.{inl, inr}
 use lib.Dec.{eqb}
 use borrow.Author.Tests.{eq-eqb, ne_eqb}
+use Rattle.std.specs.Prelude.{Ok}
 use Rattle.base_lists.specs.Seq.{pick, every}
 use Rattle.base_lists.proofs.StoresAndParts.{true_false}
 use Rattle.table_record.specs.Record.{role_of, state_number}
@@ -33,7 +34,6 @@ use Rattle.step_changes.specs.Changes.{change_of, turn_changes}
 use Rattle.step_sending.specs.Sending.{source_of}
 use Rattle.step_plan.specs.Steps.{cell_of, message_of, step_of}
 use Rattle.step_plan.specs.declared.Holder.{Holder}
-use Rattle.step_plan.specs.declared.Plan.TheVariants.{Go}
 use Rattle.step_plan.specs.declared.Call.{Call as Asked}
 use Rattle.step_plan.specs.declared.Step.{Step}
 use Rattle.step_live.specs.Turning.{row_at, holder_of, live_turn, live_step}
@@ -177,11 +177,11 @@ module _ (call : Call) (l : Lent) (place : ℕ) (event : Event) (g : Given) (c :
     own_charges = its_charges (name_of was) ∙ ap (λ (x : Bool). pick x (weight (sent_then l step)) 0) (named_self (role_of was.state) was.peer was.tid)
 
     -- it tells of its record alone
-    tells : plan_for call l ≡ Go step → cost_told entry ≡ change_cost (change_of turn.after Change.Clear) was
+    tells : plan_for call l ≡ Ok step → cost_told entry ≡ change_cost (change_of turn.after Change.Clear) was
     unfolding cost_told plan_cost cost_by live_step step_of turn_changes
     tells plan = rw plan refl
 
-    pub turned : plan_for call l ≡ Go step → Meant entry (name_of was) → Turned entry
+    pub turned : plan_for call l ≡ Ok step → Meant entry (name_of was) → Turned entry
     turned plan meant = record {
       place = place;
       event = event;

@@ -4,18 +4,16 @@ use native.Mathlib.Omega.{arith}
 use mathlib.Core.Path.{◌≡◌, refl}
 use mathlib.Core.List.{List}
 use mathlib.Core.Logic.{inl, inr}
+use Rattle.std.specs.Prelude.{Option, Some, None}
 use Rattle.base_layout.specs.Layout.{records_bound}
 use Rattle.table_record.specs.declared.Role.{Role}
 use Rattle.table_record.specs.Record.{state_number}
 use Rattle.table_record.specs.declared.State.{State}
-use Rattle.table_record.specs.declared.State.TheVariants as State
 use Rattle.table_layout.specs.Table.{count, settings_of, record_at}
 use Rattle.table_record_ok.specs.OneRecord.{InRange, RecordOk}
 use Rattle.table_record_ok.proofs.RecordTest.{free_state}
 use Rattle.table_well_formed.specs.WellFormed.{WellFormed}
 use Rattle.table_finding.specs.Finding.{named_of, free_of, due_of}
-use Rattle.table_finding.specs.declared.Found.{Found}
-use Rattle.table_finding.specs.declared.Found.TheVariants.{At, Nothing}
 use Rattle.table_finding.proofs.Searches.{named_found, free_found}
 use Rattle.table_finding.proofs.Earliest.{due_found}
 use Rattle.step_opening.specs.Opens.{place_for}
@@ -47,12 +45,12 @@ module _ (t : List ℕ) (w : WellFormed t) where
       go (inl free) = absurd (omega (arith, free_state t i free, l.live))
       go (inr ok) = ok.range
 
-  pub named_live : (role : Role) (peer tid i : ℕ) → named_of t (count t) role peer tid ≡ At i → LiveAt t i
+  pub named_live : (role : Role) (peer tid i : ℕ) → named_of t (count t) role peer tid ≡ Some i → LiveAt t i
   named_live role peer tid i e =
       let l = named_found t (count t) role peer tid i e in
       record { inside = l.below; live = live_number (record_at t i).state l.is_so.live }
 
-  pub due_live : (time i : ℕ) → due_of t (count t) time ≡ At i → LiveAt t i
+  pub due_live : (time i : ℕ) → due_of t (count t) time ≡ Some i → LiveAt t i
   due_live time i e =
       let l = due_found t time (count t) i e in
       record { inside = l.below; live = live_number (record_at t i).state l.is_due_holds.live }
@@ -62,6 +60,6 @@ module _ (t : List ℕ) (w : WellFormed t) where
   unfolding place_for
   free_place_holds = go (free_of t (count t)) refl
     where
-      go : (f : Found) → free_of t (count t) ≡ f → place_for f < count t
-      go (At i) e = (free_found t (count t) i e).below
-      go Nothing e = omega (arith, w.sized.least)
+      go : (f : Option ℕ) → free_of t (count t) ≡ f → place_for f < count t
+      go (Some i) e = (free_found t (count t) i e).below
+      go None e = omega (arith, w.sized.least)

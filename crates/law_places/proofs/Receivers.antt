@@ -4,6 +4,7 @@ use native.Mathlib.Omega.{arith}
 use mathlib.Core.Path.{◌≡◌, ◌∙◌}
 use mathlib.Core.List.{List}
 use mathlib.Core.Logic.{inl, inr}
+use Rattle.std.specs.Prelude.{Option}
 use Rattle.base_tids.specs.declared.RcvTid.{RcvTid}
 use Rattle.table_record.specs.declared.Role.{Role}
 use Rattle.table_record.specs.Record.{rcv_tid}
@@ -12,7 +13,6 @@ use Rattle.table_record_ok.specs.OneRecord.{RecordOk}
 use Rattle.table_record_ok.proofs.RecordTest.{free_state}
 use Rattle.table_well_formed.specs.WellFormed.{WellFormed}
 use Rattle.table_finding.specs.Finding.{is_named, is_receiver, named_of, receiver_of}
-use Rattle.table_finding.specs.declared.Found.{Found}
 use Rattle.table_finding.proofs.Receivers.{live_receiver, free_receiver, same_found}
 
 module _ (t : List ℕ) (w : WellFormed t) (role : Role) (peer tid : ℕ) (rcv : RcvTid) (aimed : rcv.0 ≡ rcv_tid role tid) where
@@ -24,5 +24,5 @@ module _ (t : List ℕ) (w : WellFormed t) (role : Role) (peer tid : ℕ) (rcv :
       go (inr ok) = live_receiver role peer tid rcv (record_at t i) aimed (omega (arith, ok.range.bounds.tid))
 
   -- what a search among n records gave
-  pub receiver_named : (n : ℕ) (f : Found) → n ≡ count t → f ≡ receiver_of t n role peer rcv → f ≡ named_of t (count t) role peer tid
+  pub receiver_named : (n : ℕ) (f : Option ℕ) → n ≡ count t → f ≡ receiver_of t n role peer rcv → f ≡ named_of t (count t) role peer tid
   receiver_named n f counted searched = (rw counted at searched) ∙ same_found t (count t) role peer tid rcv same

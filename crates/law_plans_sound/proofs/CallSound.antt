@@ -1,9 +1,9 @@
 -- Every accepted call's step is sound, by the way that it goes. Assumes nothing.
 use mathlib.Core.Path.{◌≡◌, refl}
 use mathlib.Core.Logic.{inl, inr}
+use Rattle.std.specs.Prelude.{Ok, Err}
 use Rattle.step_plan.specs.declared.Step.{Step}
-use Rattle.step_plan.specs.declared.Plan.{Plan}
-use Rattle.step_plan.specs.declared.Plan.TheVariants.{Refuse, Go}
+use Rattle.step_plan.specs.Steps.{Plan}
 use Rattle.call_request.proofs.Accepted.{place_of}
 use Rattle.step_outcome.specs.Carry.{Lent}
 use Rattle.call_plans.specs.Calls.{Call, plan_for, Lends, time_of}
@@ -29,5 +29,5 @@ unfolding PlanSound
 call_sound c l k = go (plan_for c l) refl
   where
     go : (plan : Plan) → plan_for c l ≡ plan → PlanSound l plan
-    go (Refuse r) e = tt
-    go (Go step) e = way_sound c l step k (call_ways c l step e)
+    go (Err r) e = tt
+    go (Ok step) e = way_sound c l step k (call_ways c l step e)

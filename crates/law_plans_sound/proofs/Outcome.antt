@@ -5,6 +5,7 @@ use mathlib.Core.List.{List}
 use mathlib.Core.Bool.{Bool, true, false}
 use mathlib.Core.Logic.{inl, inr}
 use lib.ListN.{length, get_or}
+use Rattle.std.specs.Prelude.{Ok, Err}
 use Rattle.base_layout.specs.Layout.{cell_size}
 use Rattle.base_lists.specs.Seq.{put, part}
 use Rattle.base_lists.proofs.StoresAndParts.{length_put, length_part}
@@ -15,14 +16,13 @@ use Rattle.law_commit.proofs.Keeps.{commit_keeps}
 use Rattle.law_commit.proofs.Frame.{commit_frames}
 use Rattle.step_plan.specs.declared.Part.{Part}
 use Rattle.step_plan.specs.declared.Step.{Step}
-use Rattle.step_plan.specs.declared.Plan.{Plan}
-use Rattle.step_plan.specs.declared.Plan.TheVariants.{Refuse, Go}
+use Rattle.step_plan.specs.Steps.{Plan}
 use Rattle.step_outcome.specs.Carry.{Lent, CellFits, cell_written, table_then, store_then, sent_then, carried_out, outcome}
 use Rattle.step_outcome.proofs.Refused.{output_after_holds}
 use Rattle.law_steps_sound.specs.Sound.{Fits, Sound}
 use Rattle.law_plans_sound.specs.Plans.{PlanSound, Untouched, OutsideMessage, RestUnchanged, StillFits}
 
-pub refused_untouched : (l : Lent) (r : Refusal) → Untouched l (outcome l (Refuse r))
+pub refused_untouched : (l : Lent) (r : Refusal) → Untouched l (outcome l (Err r))
 unfolding outcome
 refused_untouched l r = record { table = refl; store = refl; output = refl }
 
@@ -67,5 +67,5 @@ module _ (l : Lent) (step : Step) (f : Fits l) (ok : Sound l step) where
 -- whatever the plan is, the next call finds what fits
 pub still_fits : (l : Lent) (plan : Plan) → Fits l → PlanSound l plan → StillFits l (outcome l plan)
 unfolding outcome PlanSound
-still_fits l (Refuse r) f ok = f
-still_fits l (Go step) f ok = step_fits l step f ok
+still_fits l (Err r) f ok = f
+still_fits l (Ok step) f ok = step_fits l step f ok

@@ -7,6 +7,7 @@ use mathlib.Core.Bool.{Bool, true, false}
 use mathlib.Core.Logic.{◌⊎◌, inl, inr}
 use lib.ListN.{length}
 use lib.Dec.{eqb}
+use Rattle.std.specs.Prelude.{None, Option, Some}
 use Rattle.call_receive.proofs.Identity.{identity_fine}
 use Rattle.base_layout.specs.Layout.{exit_bound}
 use Rattle.base_lists.specs.Seq.{pick}
@@ -27,24 +28,19 @@ use Rattle.row_events.specs.declared.Opening.TheVariants as Opening
 use Rattle.row_choice.specs.Rows.{opening_of, invoke0_of, by_class, invoke12_of}
 use Rattle.row_choice.specs.declared.Arrived.{Arrived}
 use Rattle.step_arrivals.specs.Arrivals.{tid_of, name_of, event_of}
-use Rattle.step_arrivals.specs.declared.Name.{Name}
-use Rattle.step_arrivals.specs.declared.Name.TheVariants.{Nobody, Of}
 use Rattle.row_entries.specs.Acts.{opening_act}
 use Rattle.row_columns.specs.Columns.{act_with, stored, shown}
 use Rattle.row_columns.specs.declared.Next.TheVariants.{Ends}
 use Rattle.row_turns.specs.Turns.{new_record, record_after, turn_of, opening_turn}
 use Rattle.row_turns.specs.declared.Given.{Given}
-use Rattle.step_commit.specs.declared.GenTidChange.TheVariants.{Unchanged}
 use Rattle.law_commit.specs.Allowed.{CountOk}
 use Rattle.law_sending.specs.SendingLaws.{ClassFits}
 use Rattle.step_opening.specs.Opens.{place_for, opened_turn}
 use Rattle.law_places.specs.Places.{LiveAt}
 use Rattle.law_places.proofs.Places.{free_place_holds}
-use Rattle.step_plan.specs.Steps.{no_part, idle_step}
+use Rattle.step_plan.specs.Steps.{no_part, idle_step, Plan}
 use Rattle.step_plan.specs.declared.Holder.{Holder}
 use Rattle.step_plan.specs.declared.Step.{Step}
-use Rattle.step_plan.specs.declared.Plan.{Plan}
-use Rattle.step_plan.specs.declared.Plan.TheVariants.{Refuse, Go}
 use Rattle.call_receive.specs.Receives.{taken_given, taken_call, taken_step, arriver_of, opened_given, opened_call, opened_step, arrival_opening, unmatched_step, receive_step, receive_plan}
 use Rattle.call_receive.proofs.KeptData.{kept_inside, kept_small}
 use Rattle.call_receive.proofs.Ways.{Taken, Unmatched, Opens, ways, leaves_or_opens}
@@ -128,12 +124,12 @@ unfolding opened_turn opening_turn turn_of record_after new_record
 ends_free opening t h g e l = absurd (omega (arith, rw e at l))
 
 -- two names of one PDU are one
-pub same_role : (n : Name) (r r' : Role) (i i' : ℕ) → n ≡ Of r i → n ≡ Of r' i' → r ≡ r'
+pub same_role : (n : Option (Role × ℕ)) (r r' : Role) (i i' : ℕ) → n ≡ Some (r, i) → n ≡ Some (r', i') → r ≡ r'
 same_role n r r' i i' e e' = ap role_in (sym e ∙ e')
   where
-    role_in : Name → Role
-    role_in Nobody = r
-    role_in (Of x j) = x
+    role_in : Option (Role × ℕ) → Role
+    role_in None = r
+    role_in (Some (x, j)) = x
 
 module _ (l : Lent) (time peer : ℕ) (exit : length l.exit ≤ exit_bound) (step : Step) (a : Accepted l.table (length l.store) (length l.output) time peer l.given step) where
   abbrev t : List ℕ
@@ -173,7 +169,7 @@ module _ (l : Lent) (time peer : ℕ) (exit : length l.exit ≤ exit_bound) (ste
     pub unmatched_sound : Sound l (unmatched_step t u.role peer u.tid time l.given p)
     unfolding unmatched_step opened_step opened_given opened_call arriver_of CountOk
     unmatched_sound =
-        opening_sound l opening holder (opened_given time p) Unchanged (opened_call p) a.enters.fitting
+        opening_sound l opening holder (opened_given time p) None (opened_call p) a.enters.fitting
         (record { time = a.enters.bounded; len = kept_small p; exit_len = omega arith; unknown = identity_fine l.given })
         (record { message_inside = kept_inside l.given; message_fits = kept_small p; exit_fits = exit })
         tt

@@ -25,8 +25,7 @@ use Rattle.law_rows.specs.Shown.{living_state}
 use Rattle.row_turns.specs.Turns.{new_record}
 use Rattle.law_commit.specs.Allowed.{CountOk}
 use Rattle.step_opening.specs.Opens.{opened_turn}
-use Rattle.step_plan.specs.declared.Plan.{Plan}
-use Rattle.step_plan.specs.declared.Plan.TheVariants.{Refuse, Go}
+use Rattle.step_plan.specs.Steps.{Plan}
 use Rattle.call_request.specs.Requests.{requester, counted_by, request_given, request_call, request_step, request_plan}
 use Rattle.call_request.specs.declared.Request.{Request}
 use Rattle.call_request.proofs.Accepted.{place_of, Admitted, Accepted, request_accepted, name_unused}

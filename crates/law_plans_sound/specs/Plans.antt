@@ -1,18 +1,17 @@
 -- What holds of a plan, and of what a call leaves (01, "Numbers given back"; demand 3: "A call changes no record but the one it names, opens or fires").
-use Rattle.std.specs.Prelude.{ℕ, ◌+◌, ◌*◌, ◌≤◌, ◌<◌, ◌≡◌, false, ◌⊎◌, length, get_or}
+use Rattle.std.specs.Prelude.{ℕ, ◌+◌, ◌*◌, ◌≤◌, ◌<◌, ◌≡◌, false, ◌⊎◌, length, get_or, Ok, Err}
 use Rattle.base_layout.specs.Layout.{cell_size}
 use Rattle.table_well_formed.specs.WellFormed.{Fitting}
 use Rattle.law_commit.specs.Allowed.{Framed}
 use Rattle.step_plan.specs.declared.Step.{Step}
-use Rattle.step_plan.specs.declared.Plan.{Plan}
-use Rattle.step_plan.specs.declared.Plan.TheVariants.{Refuse, Go}
+use Rattle.step_plan.specs.Steps.{Plan}
 use Rattle.step_outcome.specs.Carry.{Lent, Done, sent_then}
 use Rattle.law_steps_sound.specs.Sound.{Fits, Sound}
 
 -- a plan's step, if it has one, is sound
 unfoldable pub PlanSound : Lent → Plan → Type 0
-PlanSound l (Refuse r) = Unit
-PlanSound l (Go step) = Sound l step
+PlanSound l (Err r) = Unit
+PlanSound l (Ok step) = Sound l step
 
 -- a refusal leaves every lent octet
 pub record Untouched (l : Lent) (d : Done) : Type 0 where

@@ -7,13 +7,11 @@ use mathlib.Core.List.{List}
 use mathlib.Core.Bool.{true, false, not}
 use mathlib.Core.Logic.{inl, inr}
 use lib.Dec.{ltb}
+use Rattle.std.specs.Prelude.{Option, Some, None, is_some}
 use Rattle.base_layout.specs.Layout.{peers}
 use Rattle.base_lists.proofs.StoresAndParts.{true_false}
 use Rattle.base_numbers.specs.declared.Refusal.TheVariants.{PeerTooLarge, TooLong, NoRecord, NotAllowed}
 use Rattle.table_well_formed.specs.WellFormed.{WellFormed}
-use Rattle.table_finding.specs.Finding.{is_found}
-use Rattle.table_finding.specs.declared.Found.{Found}
-use Rattle.table_finding.specs.declared.Found.TheVariants.{At, Nothing}
 use Rattle.step_live.specs.Turning.{row_at}
 use Rattle.call_refusal.specs.Judging.{lowest, Lowest, test, condition}
 use Rattle.call_refusal.specs.Told.{Tells}
@@ -30,16 +28,16 @@ tells_peer p = (refl, λ e. omega (arith, ltb-true 255 p.peer e), λ e h. absurd
 
 -- in a well-formed table, where the name finds this
 module _ (t : List ℕ) (p : Primitive) (w : WellFormed t) where
-  exit_found : (found : Found) → found_for t p ≡ found → 1 ≤ p.exit_len → exit_refused t found ≡ true → (i : ℕ) × ExitRefused t p i
+  exit_found : (found : Option ℕ) → found_for t p ≡ found → 1 ≤ p.exit_len → exit_refused t found ≡ true → (i : ℕ) × ExitRefused t p i
   unfolding exit_refused
-  exit_found (At i) f some e = (i, record { some = some; names = found_named t p i f; responder = (exit_refused_holds t i e).1; class = (exit_refused_holds t i e).0 })
-  exit_found Nothing f some e = true_false (sym e)
+  exit_found (Some i) f some e = (i, record { some = some; names = found_named t p i f; responder = (exit_refused_holds t i e).1; class = (exit_refused_holds t i e).0 })
+  exit_found None f some e = true_false (sym e)
 
-  exit_none : (found : Found) → found_for t p ≡ found → exit_refused t found ≡ false → (i : ℕ) → ExitRefused t p i → ⊥
-  exit_none (At j) f e i x = exit_not_refused t i (rw (one_named t p w i j x.names (found_named t p j f)) e) x.class x.responder
-  exit_none Nothing f e i x = found_none t p f i x.names
+  exit_none : (found : Option ℕ) → found_for t p ≡ found → exit_refused t found ≡ false → (i : ℕ) → ExitRefused t p i → ⊥
+  exit_none (Some j) f e i x = exit_not_refused t i (rw (one_named t p w i j x.names (found_named t p j f)) e) x.class x.responder
+  exit_none None f e i x = found_none t p f i x.names
 
-  tells_too_much : (found : Found) → found_for t p ≡ found → Tells (test TooLong (too_much_is t p found)) (condition TooLong (TooMuch t p))
+  tells_too_much : (found : Option ℕ) → found_for t p ≡ found → Tells (test TooLong (too_much_is t p found)) (condition TooLong (TooMuch t p))
   tells_too_much found f = (refl, λ e. yes (too_much t p found e), λ e. no (not_too_much t p found e))
     where
       yes : TooMuchBy t p found → TooMuch t p
@@ -52,18 +50,18 @@ module _ (t : List ℕ) (p : Primitive) (w : WellFormed t) where
       no n (inr (inl h)) = absurd (omega (arith, h, n.exit))
       no n (inr (inr h)) = exit_none found f (n.allowed h.1.some) h.0 h.1
 
-  pub tells_none : (found : Found) → found_for t p ≡ found → Tells (test NoRecord (not (is_found found))) (condition NoRecord (NoneNamed t p))
-  tells_none (At i) f = (refl, λ e. true_false (sym e), λ e none. none i (found_named t p i f))
-  tells_none Nothing f = (refl, λ e. found_none t p f, λ e. true_false e)
+  pub tells_none : (found : Option ℕ) → found_for t p ≡ found → Tells (test NoRecord (not (is_some found))) (condition NoRecord (NoneNamed t p))
+  tells_none (Some i) f = (refl, λ e. true_false (sym e), λ e none. none i (found_named t p i f))
+  tells_none None f = (refl, λ e. found_none t p f, λ e. true_false e)
 
-  tells_row : (found : Found) → found_for t p ≡ found → Tells (test NotAllowed (not_allowed t found p.event)) (condition NotAllowed ((i : ℕ) × NoRow t p i))
+  tells_row : (found : Option ℕ) → found_for t p ≡ found → Tells (test NotAllowed (not_allowed t found p.event)) (condition NotAllowed ((i : ℕ) × NoRow t p i))
   unfolding not_allowed
-  tells_row (At j) f = (
+  tells_row (Some j) f = (
     refl,
     λ e. (j, record { names = found_named t p j f; row = row_refuses (row_at t j p.event) e }),
     λ e x. row_allows (row_at t j p.event) e (rw (one_named t p w x.0 j x.1.names (found_named t p j f)) at x.1.row),
   )
-  tells_row Nothing f = (refl, λ e. true_false (sym e), λ e x. found_none t p f x.0 x.1.names)
+  tells_row None f = (refl, λ e. true_false (sym e), λ e x. found_none t p f x.0 x.1.names)
 
 -- EACH NUMBER OF A PRIMITIVE IS GIVEN EXACTLY WHEN DOCUMENT 01'S TABLE SAYS SO
 pub primitive_exact : (t : List ℕ) (store output : ℕ) (p : Primitive) → Lowest (primitive_conditions t store output p) (lowest (primitive_tests t store output p))

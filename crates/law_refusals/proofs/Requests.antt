@@ -6,14 +6,13 @@ use mathlib.Core.List.{List}
 use mathlib.Core.Bool.{Bool, true, false, not}
 use lib.Dec.{ltb}
 use borrow.Author.Tests.{ltb-true, ltb-false}
+use Rattle.std.specs.Prelude.{Option, Some, None, is_some}
 use Rattle.base_lists.specs.Seq.{pick}
 use Rattle.base_lists.proofs.StoresAndParts.{true_false}
 use Rattle.base_numbers.specs.declared.Refusal.{Refusal}
 use Rattle.base_numbers.specs.declared.Refusal.TheVariants.{PeerTooLarge, TooLong, WrongClass, TableFull}
 use Rattle.table_layout.specs.Table.{count, record_at}
-use Rattle.table_finding.specs.Finding.{free_of, is_found}
-use Rattle.table_finding.specs.declared.Found.{Found}
-use Rattle.table_finding.specs.declared.Found.TheVariants.{At, Nothing}
+use Rattle.table_finding.specs.Finding.{free_of}
 use Rattle.table_finding.proofs.Searches.{free_found, free_nothing}
 use Rattle.call_refusal.specs.Judging.{test, lowest, condition, Lowest}
 use Rattle.call_refusal.specs.Told.{Tells}
@@ -34,15 +33,15 @@ module _ (t : List ℕ) where
   unfolding none_free
   tells_full class = (refl, yes (ltb 0 class) refl (free_of t (count t)) refl, no (ltb 0 class) refl (free_of t (count t)) refl)
     where
-      yes : (b : Bool) → ltb 0 class ≡ b → (f : Found) → free_of t (count t) ≡ f → pick b (not (is_found f)) false ≡ true → NoneFree t class
+      yes : (b : Bool) → ltb 0 class ≡ b → (f : Option ℕ) → free_of t (count t) ≡ f → pick b (not (is_some f)) false ≡ true → NoneFree t class
       yes false e f q h = true_false (sym h)
-      yes true e (At j) q h = true_false (sym h)
-      yes true e Nothing q h = (omega (arith, ltb-true 0 class e), λ i l. live_number (record_at t i).state (free_nothing t (count t) q i l))
+      yes true e (Some j) q h = true_false (sym h)
+      yes true e None q h = (omega (arith, ltb-true 0 class e), λ i l. live_number (record_at t i).state (free_nothing t (count t) q i l))
 
-      no : (b : Bool) → ltb 0 class ≡ b → (f : Found) → free_of t (count t) ≡ f → pick b (not (is_found f)) false ≡ false → NoneFree t class → ⊥
+      no : (b : Bool) → ltb 0 class ≡ b → (f : Option ℕ) → free_of t (count t) ≡ f → pick b (not (is_some f)) false ≡ false → NoneFree t class → ⊥
       no false e f q h n = absurd (omega (arith, ltb-false 0 class e, n.0))
-      no true e Nothing q h n = true_false h
-      no true e (At j) q h n =
+      no true e None q h n = true_false h
+      no true e (Some j) q h n =
           let l = free_found t (count t) j q in
           not_free (record_at t j).state (n.1 j l.below) l.is_so
 

@@ -7,7 +7,6 @@ use Rattle.row_columns.specs.declared.Send.{Send}
 use Rattle.row_columns.specs.declared.Send.TheVariants.{Nothing, Invoke, Tidok, LastAck, HoldOn, Tidve, Result, Abort}
 use Rattle.step_sending.specs.declared.Sender.{Sender}
 use Rattle.step_sending.specs.declared.Source.{Source}
-use Rattle.step_sending.specs.declared.Source.TheVariants as Source
 use Rattle.step_sending.specs.Sending.{parts_in, sent_pdu}
 use Rattle.step_sending.specs.Octets.{octets_sent}
 

@@ -1,11 +1,9 @@
 -- The starred cases of document 01, "Bench cases": "proved together as one table".
-use Rattle.std.specs.Prelude.{ℕ, ◌+◌, ◌%◌, ◌≡◌, List, [], ◌∷◌, Bool, true, false, length, replicate}
+use Rattle.std.specs.Prelude.{ℕ, ◌+◌, ◌%◌, ◌≡◌, List, [], ◌∷◌, Bool, true, false, length, replicate, Ok, None}
 use Rattle.base_layout.specs.Layout.{tid_count}
-use Rattle.base_numbers.specs.declared.Malformed.{Malformed}
 use Rattle.base_numbers.specs.declared.Malformed.TheVariants.{D1, D2, D5, D7}
-use Rattle.base_numbers.specs.declared.Verdict.{Verdict}
-use Rattle.base_numbers.specs.declared.Verdict.TheVariants.{Sound}
-use Rattle.codec_items.specs.Items.{no_item}
+use Rattle.base_numbers.specs.declared.Malformed.{Malformed}
+use Rattle.codec_items.specs.Items.{Verdict, no_item}
 use Rattle.codec_pdu.specs.declared.Kind.{Kind}
 use Rattle.codec_pdu.specs.declared.Kind.TheVariants.{Invoke, Result, Ack, Wrong}
 use Rattle.codec_pdu.specs.declared.Pdu.{Pdu}
@@ -23,12 +21,10 @@ use Rattle.table_tids.specs.declared.Test.{Test}
 use Rattle.table_tids.specs.declared.Test.TheVariants.{Valid, Verified}
 use Rattle.table_layout.specs.Table.{count, gen_tid_of, tidnew_due_of}
 use Rattle.table_fresh.specs.Fresh.{fresh_answer, table_after_fresh}
-use Rattle.table_fresh.specs.declared.Fresh.TheVariants.{Made}
+use Rattle.std.specs.Prelude.{Ok}
 use Rattle.table_finding.specs.Finding.{named_of}
-use Rattle.table_finding.specs.declared.Found.TheVariants.{Nothing}
 use Rattle.step_arrivals.specs.Arrivals.{tid_of}
 use Rattle.step_plan.specs.declared.Step.{Step}
-use Rattle.step_plan.specs.declared.Plan.TheVariants.{Go}
 use Rattle.call_receive.specs.Receives.{receive_plan}
 use Rattle.call_request.specs.Requests.{request_plan}
 use Rattle.call_plans.specs.Calls.{as_request}
@@ -51,21 +47,21 @@ pub data Row : Type 0 where
 
 -- a class 2 request without data and U/P is accepted
 abbrev pub Requested : Lent → ℕ → ℕ → Step → Type 0
-Requested l time peer step = request_plan l.table (length l.store) (length l.output) (as_request time peer 2 false 0) ≡ Go step
+Requested l time peer step = request_plan l.table (length l.store) (length l.output) (as_request time peer 2 false 0) ≡ Ok step
 
 -- what a case says
 unfoldable pub Says : Row → Type 0
 Says (reads octets p) = pdu_of octets ≡ p
-Says (writes source p octets) = ◌≡◌ {A = Verdict × List ℕ} (fault_of p, octets_of source p) (Sound, octets)
+Says (writes source p octets) = ◌≡◌ {A = Verdict × List ℕ} (fault_of p, octets_of source p) (Ok tt, octets)
 Says (malformed octets d) = pdu_of octets ≡ blank_pdu (Wrong d)
 Says (separates datagram split) = parts_of datagram ≡ split
 Says (tests last tid test) = test_of (last + 1) tid ≡ test
 Says (sends source send by octets) = octets_of (parts_in source by) (sent_pdu send by) ≡ octets
 Says (unmatched octets sent) =
-    (l : Lent) (time peer : ℕ) (step : Step) → l.given ≡ octets → named_of l.table (count l.table) Initiator peer (tid_of octets % tid_count) ≡ Nothing
-    → receive_plan l.table (length l.store) (length l.output) time peer l.given ≡ Go step → sent_then l step ≡ sent
+    (l : Lent) (time peer : ℕ) (step : Step) → l.given ≡ octets → named_of l.table (count l.table) Initiator peer (tid_of octets % tid_count) ≡ None
+    → receive_plan l.table (length l.store) (length l.output) time peer l.given ≡ Ok step → sent_then l step ≡ sent
 Says (first octets) =
-    (l : Lent) (old settings : List ℕ) (time peer : ℕ) (step : Step) → fresh_answer (length old) settings 5 ≡ Made → l.table ≡ table_after_fresh Made old settings 5 → Requested l time peer step → sent_then l step ≡ octets
+    (l : Lent) (old settings : List ℕ) (time peer : ℕ) (step : Step) → fresh_answer (length old) settings 5 ≡ Ok tt → l.table ≡ table_after_fresh (Ok tt) old settings 5 → Requested l time peer step → sent_then l step ≡ octets
 Says (later octets) =
     (l : Lent) (time peer : ℕ) (step : Step) → tidnew_due_of l.table ≡ false → gen_tid_of l.table ≡ 5 → Requested l time peer step → sent_then l step ≡ octets
 

@@ -8,7 +8,8 @@ use mathlib.Core.Bool.{Bool, true, false}
 use mathlib.Core.Logic.{inl, inr}
 use lib.ListN.{length}
 use lib.Dec.{eqb}
-use Rattle.base_layout.specs.Layout.{time_bound, tid_bound, cached_bound, peers, exit_bound}
+use Rattle.std.specs.Prelude.{Option, Some, None}
+use Rattle.base_layout.specs.Layout.{time_bound, tid_bound, peers, exit_bound}
 use Rattle.base_lists.specs.Seq.{pick, bit}
 use Rattle.table_record.specs.Record.{state_number, role_of}
 use Rattle.table_record.specs.declared.State.TheVariants.{Free}
@@ -21,7 +22,6 @@ use Rattle.law_formed_kept.proofs.Keeps.{own_name}
 use Rattle.row_events.specs.declared.Event.{Event}
 use Rattle.row_events.specs.declared.Opening.{Opening}
 use Rattle.row_columns.specs.declared.Cache.{Cache}
-use Rattle.row_columns.specs.declared.Cache.TheVariants as Cache
 use Rattle.row_entries.specs.Acts.{opening_act}
 use Rattle.law_rows.specs.Shown.{living_state}
 use Rattle.table_ranges.proofs.Modes.{limit_most}
@@ -32,8 +32,7 @@ use Rattle.law_rows.proofs.Transaction.{turn_keeps}
 use Rattle.row_turns.specs.Turns.{new_record}
 use Rattle.row_turns.specs.declared.Given.{Given}
 use Rattle.step_commit.specs.declared.Change.TheVariants as Change
-use Rattle.step_commit.specs.declared.GenTidChange.{GenTidChange}
-use Rattle.step_commit.specs.declared.TidChange.{TidChange}
+use Rattle.step_commit.specs.declared.GenTid.{GenTid}
 use Rattle.law_commit.specs.Allowed.{ChangeOk, SetOk, CountOk, Allowed}
 use Rattle.step_changes.specs.Changes.{change_of, cached_after, turn_changes}
 use Rattle.step_plan.specs.Steps.{idle_changes}
@@ -65,7 +64,7 @@ cached_ok Cache.Same cached tid h = tt
 cached_ok Cache.Set cached tid h = omega arith
 cached_ok Cache.SetIfNone cached tid h = go (eqb cached 0)
   where
-    go : (b : Bool) → SetOk (pick b (TidChange.Set (tid + 1)) TidChange.Unchanged)
+    go : (b : Bool) → SetOk (pick b (Some (tid + 1)) None)
     go true = omega arith
     go false = tt
 cached_ok Cache.Drop cached tid h = omega arith
@@ -134,7 +133,7 @@ module _ (t : List ℕ) (w : WellFormed t) (opening : Opening) (h : Holder) (g :
         let l : 1 ≤ state_number opened.state = omega (arith, eqb-false (state_number opened.state) 0 e) in
         (record { live = l; bounds = opened_bounded }, unused l)
 
-    pub opening_allowed : (gen_tid : GenTidChange) (exit : List ℕ) → CountOk gen_tid → length exit ≤ exit_bound
+    pub opening_allowed : (gen_tid : Option GenTid) (exit : List ℕ) → CountOk gen_tid → length exit ≤ exit_bound
         → Allowed t (opening_changes (opened_turn t opening h g) h (cached_of t h.peer) gen_tid g.time) exit
     unfolding opening_changes change_of
     opening_allowed gen_tid exit counted x = record {

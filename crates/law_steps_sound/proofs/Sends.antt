@@ -13,7 +13,6 @@ use Rattle.law_rows.specs.Shown.{SendProper}
 use Rattle.step_sending.specs.Sending.{source_of}
 use Rattle.step_sending.specs.declared.Sender.{Sender}
 use Rattle.step_sending.specs.declared.Source.{Source}
-use Rattle.step_sending.specs.declared.Source.TheVariants as Source
 use Rattle.law_sending.specs.SendingLaws.{FitSource, Proper, ClassFits}
 use Rattle.law_sending.proofs.BySource.{by_source}
 use Rattle.step_plan.specs.Steps.{cell_of, message_from, message_of, sender_of}

@@ -5,12 +5,12 @@ use mathlib.Core.Path.{◌≡◌, refl}
 use mathlib.Core.List.{List}
 use mathlib.Core.Bool.{Bool, true, false}
 use lib.ListN.{length}
+use Rattle.std.specs.Prelude.{Option}
 use Rattle.base_layout.specs.Layout.{time_bound, tid_bound, peers, exit_bound, cell_size}
 use Rattle.base_lists.proofs.StoresAndParts.{true_false}
 use Rattle.base_lists.specs.Seq.{bit}
 use Rattle.table_record.specs.Record.{role_of, class_of, state_number}
 use Rattle.table_record.specs.declared.State.{State}
-use Rattle.table_record.specs.declared.State.TheVariants as State
 use Rattle.table_layout.specs.Table.{count, record_at}
 use Rattle.law_formed_kept.specs.UnusedName.{Unused}
 use Rattle.row_events.specs.declared.Event.{Event}
@@ -23,7 +23,7 @@ use Rattle.law_rows.proofs.Rows.{proper, proper_opening}
 use Rattle.row_turns.specs.Turns.{turn_of, row_turn, opening_turn}
 use Rattle.row_turns.specs.declared.Given.{Given}
 use Rattle.row_turns.specs.declared.Turn.{Turn}
-use Rattle.step_commit.specs.declared.GenTidChange.{GenTidChange}
+use Rattle.step_commit.specs.declared.GenTid.{GenTid}
 use Rattle.step_commit.specs.declared.Changes.{Changes}
 use Rattle.law_commit.specs.Allowed.{CountOk, Allowed}
 use Rattle.step_changes.specs.Changes.{turn_changes}
@@ -105,7 +105,7 @@ unfolding opened_turn opening_turn turn_of
 class_opening t opening h g k = k
 
 -- what comes without a live record, under a name that no live record has
-pub opening_sound : (l : Lent) (opening : Opening) (h : Holder) (g : Given) (gen_tid : GenTidChange) (c : Call) → Fits l → GivenOk g → LentOk l c → CountOk gen_tid
+pub opening_sound : (l : Lent) (opening : Opening) (h : Holder) (g : Given) (gen_tid : Option GenTid) (c : Call) → Fits l → GivenOk g → LentOk l c → CountOk gen_tid
     → h.place < count l.table → h.peer < peers → h.tid ≤ tid_bound → bit h.tidnew ≤ tidnew_bound (role_of (living_state (opening_act opening).next State.Free)) → h.len ≤ cell_size → ClassFits (opening_act opening).send h.class
     → (1 ≤ state_number (opened_turn l.table opening h g).after.state → Unused l.table h.place (opened_turn l.table opening h g).after)
     → Sound l (opening_step l.table opening h g gen_tid c)

@@ -6,14 +6,13 @@ use mathlib.Core.Bool.{Bool, true, false}
 use mathlib.Core.List.{List}
 use mathlib.Core.Logic.{inl, inr}
 use lib.Dec.{eqb}
+use Rattle.std.specs.Prelude.{Ok, Err}
 use Rattle.base_lists.specs.Seq.{pick}
 use Rattle.base_lists.proofs.StoresAndParts.{true_false}
 use Rattle.table_layout.specs.Table.{gen_tid_of, tidnew_due_of}
 use Rattle.table_tids.specs.Tids.{due_after}
-use Rattle.step_plan.specs.Steps.{step_of}
+use Rattle.step_plan.specs.Steps.{step_of, Plan}
 use Rattle.step_plan.specs.declared.Step.{Step}
-use Rattle.step_plan.specs.declared.Plan.{Plan}
-use Rattle.step_plan.specs.declared.Plan.TheVariants.{Refuse, Go}
 use Rattle.step_opening.specs.Opens.{opening_changes, opening_step}
 use Rattle.call_request.specs.Requests.{request_step, counted_by}
 use Rattle.step_outcome.specs.Carry.{Lent, table_then, carried_out, outcome}
@@ -48,8 +47,8 @@ module _ (c : Call) (l : Lent) where
 
   of_plan : Lends c l → (p : Plan) → plan_for c l ≡ p → tidnew_due_of (outcome l p).table ≡ due_by c (outcome l p).answer (gen_tid_of (outcome l p).table) (tidnew_due_of t)
   unfolding outcome carried_out table_then
-  of_plan lends (Refuse r) e = refl
-  of_plan lends (Go step) e =
+  of_plan lends (Err r) e = refl
+  of_plan lends (Ok step) e =
       let a = call_ways c l step e in
       let ok = (way_sound c l step lends a).allowed in
       let counted = gen_tid_left t step.changes l.exit a.fits.formed ok in

@@ -6,12 +6,12 @@ use mathlib.Core.Bool.{Bool, true, false, ◌&&◌, not}
 use mathlib.Core.List.{List}
 use lib.ListN.{length, get_or}
 use lib.Dec.{eqb}
+use Rattle.std.specs.Prelude.{Ok, Err}
 use Rattle.base_lists.specs.Seq.{pick}
 use Rattle.base_lists.proofs.StoresAndParts.{true_false}
 use Rattle.table_layout.specs.Table.{gen_tid_of, tidnew_due_of}
 use Rattle.table_tids.specs.Tids.{carries_tidnew}
-use Rattle.step_plan.specs.declared.Plan.{Plan}
-use Rattle.step_plan.specs.declared.Plan.TheVariants.{Refuse, Go}
+use Rattle.step_plan.specs.Steps.{Plan}
 use Rattle.call_request.proofs.Accepted.{place_of, request_accepted}
 use Rattle.step_outcome.specs.Carry.{Lent, Done, carried_out, outcome}
 use Rattle.call_plans.specs.Calls.{Call, promised, plan_for, as_request}
@@ -40,8 +40,8 @@ module _ (l : Lent) (time peer class : ℕ) (up : Bool) where
   octet_sent ok = go (plan_for call l) refl ok
     where
       go : (p : Plan) → plan_for call l ≡ p → accepted (outcome l p).answer ≡ true → get_or (outcome l p).output 3 0 ≡ invoke_octet (not (eqb class 0) && tidnew_due_of l.table) up class
-      go (Refuse r) e k = true_false (sym k)
-      go (Go step) e k =
+      go (Err r) e k = true_false (sym k)
+      go (Ok step) e k =
           let a = request_accepted l.table (length l.store) (length l.output) (as_request time peer class up (length l.given)) step e in
           let small : class % 256 ≡ class = omega (arith, a.admits.class_known) in
           rw a.step_is

@@ -1,17 +1,15 @@
 -- What an Invoke with TIDnew drops, and until when nothing is cached (02, L2).
-use Rattle.std.specs.Prelude.{ℕ, ◌≤◌, ◌<◌, ◌≡◌, Bool, true, List, ◌⊎◌}
+use Rattle.std.specs.Prelude.{ℕ, ◌≤◌, ◌<◌, ◌≡◌, Bool, true, List, ◌⊎◌, Some, None, is_some}
 use Rattle.base_layout.specs.Layout.{peers, cell_size}
 use Rattle.table_record.specs.declared.Role.TheVariants.{Responder}
 use Rattle.table_layout.specs.Table.{count, cached_of, record_at}
 use Rattle.table_record_ok.specs.OneRecord.{Live}
-use Rattle.table_finding.specs.Finding.{is_found, named_of, free_of}
-use Rattle.table_finding.specs.declared.Found.TheVariants as Found
+use Rattle.table_finding.specs.Finding.{named_of, free_of}
 use Rattle.codec_pdu.specs.declared.Kind.TheVariants as Kind
 use Rattle.codec_reading.specs.Read.{pdu_of}
 use Rattle.row_events.specs.declared.Event.{Event}
 use Rattle.row_events.specs.declared.Row.TheVariants as Row
 use Rattle.step_arrivals.specs.Arrivals.{name_of, invokes_us}
-use Rattle.step_arrivals.specs.declared.Name.TheVariants.{Of}
 use Rattle.step_live.specs.Turning.{row_at}
 use Rattle.step_outcome.specs.Carry.{Lent}
 
@@ -22,13 +20,13 @@ pub record Restarts (l : Lent) (peer : ℕ) : Type 0 where
   pub gtr : Bool
   pub rid : Bool
   pub up : Bool
-  pub names : name_of l.given ≡ Of Responder tid
-  pub no_record : named_of l.table (count l.table) Responder peer tid ≡ Found.Nothing
+  pub names : name_of l.given ≡ Some (Responder, tid)
+  pub no_record : named_of l.table (count l.table) Responder peer tid ≡ None
   pub to_us : invokes_us l.given ≡ true
   pub invoke : (pdu_of l.given).kind ≡ Kind.Invoke gtr true rid 0 true up class
   pub some : 1 ≤ class
   pub short : (pdu_of l.given).len ≤ cell_size
-  pub free : is_found (free_of l.table (count l.table)) ≡ true
+  pub free : is_some (free_of l.table (count l.table)) ≡ true
 
 -- "drops the cached TID for that peer", and no other peer's
 pub record Dropped (before after : List ℕ) (peer : ℕ) : Type 0 where

@@ -2,7 +2,7 @@
 use Rattle.std.specs.Prelude.{ℕ, ◌+◌, ◌*◌, ◌≡◌, Bool, true, false, ◌&&◌, not, List, [], ◌∷◌, get_or, eqb}
 use Rattle.base_lists.specs.Seq.{pick, bit}
 use Rattle.table_layout.specs.Table.{gen_tid_of}
-use Rattle.step_outcome.specs.declared.Answer.{Answer}
+use Rattle.step_outcome.specs.Carry.{Answer}
 use Rattle.call_plans.specs.Calls.{Call, is_request}
 use Rattle.law_history.specs.Trace.{Entry}
 use Rattle.law_history.specs.Tally.{accepted}

@@ -8,13 +8,12 @@ use mathlib.Core.Logic.{inl, inr}
 use lib.ListN.{length, get_or, replicate}
 use lib.Dec.{ltb}
 use borrow.Author.Tests.{le-ltb, ltb-false}
+use Rattle.std.specs.Prelude.{Option, Some, None}
 use Rattle.base_layout.specs.Layout.{deadline_bound}
 use Rattle.base_lists.specs.Seq.{pick, put}
 use Rattle.base_lists.proofs.StoresAndParts.{length_put}
 use Rattle.base_octets.proofs.StoredAndRead.{get_same, get_d_after}
 use Rattle.table_layout.specs.Table.{count, record_at}
-use Rattle.table_finding.specs.declared.Found.{Found}
-use Rattle.table_finding.specs.declared.Found.TheVariants.{At, Nothing}
 use Rattle.table_finding.specs.Searched.{Due}
 use Rattle.table_finding.proofs.Earliest.{due_found, due_nothing}
 use Rattle.table_well_formed.specs.WellFormed.{WellFormed, well_formed}
@@ -30,7 +29,7 @@ module _ (t : List ℕ) (w : WellFormed t) where
       let ok = live_range t w m (record { inside = l; live = live_number (record_at t m).state r.live }) in
       record { live = r.live; runs = r.deadline; not_after = ok.bounds.deadline }
 
-  pub found_soonest : (j : ℕ) → earliest_of t ≡ At j → Soonest t j
+  pub found_soonest : (j : ℕ) → earliest_of t ≡ Some j → Soonest t j
   unfolding earliest_of
   found_soonest j e =
       let s = due_found t deadline_bound (count t) j e in
@@ -41,7 +40,7 @@ module _ (t : List ℕ) (w : WellFormed t) where
         none_before = λ m l r q. absurd (omega (arith, q, s.before_later m l (runs_due m (omega (arith, l, s.below)) r)));
       }
 
-  pub found_none : earliest_of t ≡ Nothing → (m : ℕ) → m < count t → Runs (record_at t m) → ⊥
+  pub found_none : earliest_of t ≡ None → (m : ℕ) → m < count t → Runs (record_at t m) → ⊥
   unfolding earliest_of
   found_none e m l r = due_nothing t deadline_bound (count t) e m l (runs_due m l r)
 
@@ -56,10 +55,10 @@ module _ (t due : List ℕ) (w : WellFormed t) (enough : 5 ≤ length due) where
   unfolding due_after
   after_is = rw (le-ltb (length due) 5 enough, to_test t w) refl
 
-  five : (f : Found) → length (due_words t f) ≡ 5
+  five : (f : Option ℕ) → length (due_words t f) ≡ 5
   unfolding due_words
-  five (At i) = refl
-  five Nothing = refl
+  five (Some i) = refl
+  five None = refl
 
   word : (k : ℕ) → k < 5 → get_or (due_after t due) k 0 ≡ get_or (due_words t (earliest_of t)) k 0
   word k h =
@@ -67,12 +66,12 @@ module _ (t due : List ℕ) (w : WellFormed t) (enough : 5 ≤ length due) where
       let e : 0 + k ≡ k = omega arith in
       ap (λ (x : List ℕ). get_or x k 0) after_is ∙ rw e at (get_same (due_words t (earliest_of t)) due 0 k (omega (arith, n, enough)) (omega (arith, n, h)))
 
-  words_of : (f : Found) → earliest_of t ≡ f → Told t (due_after t due)
+  words_of : (f : Option ℕ) → earliest_of t ≡ f → Told t (due_after t due)
   unfolding due_words
-  words_of (At j) e =
-      let same : (k : ℕ) → k < 5 → get_or (due_after t due) k 0 ≡ get_or (due_words t (At j)) k 0 = λ k h. word k h ∙ ap (λ (f : Found). get_or (due_words t f) k 0) e in
+  words_of (Some j) e =
+      let same : (k : ℕ) → k < 5 → get_or (due_after t due) k 0 ≡ get_or (due_words t (Some j)) k 0 = λ k h. word k h ∙ ap (λ (f : Option ℕ). get_or (due_words t f) k 0) e in
       inl (j, (found_soonest t w j e, record { word_0 = same 0 (omega arith); word_1 = same 1 (omega arith); word_2 = same 2 (omega arith); word_3 = same 3 (omega arith); word_4 = same 4 (omega arith) }))
-  words_of Nothing e = inr record { none = found_none t w e; zero = λ k h. word k h ∙ ap (λ (f : Found). get_or (due_words t f) k 0) e ∙ zeros 5 k }
+  words_of None e = inr record { none = found_none t w e; zero = λ k h. word k h ∙ ap (λ (f : Option ℕ). get_or (due_words t f) k 0) e ∙ zeros 5 k }
 
   -- THE DEADLINE CALL TELLS THE EARLIEST DEADLINE AND ITS TRANSACTION, OR NONE
   pub deadline_told : Told t (due_after t due)

@@ -1,12 +1,11 @@
 -- The timer call in two, in document 02's words (L3): "one tells the earliest deadline and its transaction, or none; the other fires the transaction named. Where a record is due, both together equal the old call".
-use Rattle.std.specs.Prelude.{ℕ, ◌≤◌, ◌<◌, ◌≡◌, List, ◌⊎◌, length, get_or}
+use Rattle.std.specs.Prelude.{ℕ, ◌≤◌, ◌<◌, ◌≡◌, List, ◌⊎◌, length, get_or, Err}
 use Rattle.base_numbers.specs.declared.Refusal.{Refusal}
 use Rattle.table_record.specs.Record.{role_of, role_number}
 use Rattle.table_record.specs.declared.Record.{Record}
 use Rattle.table_layout.specs.Table.{count, record_at, clock_of}
 use Rattle.table_finding.specs.Searched.{Live, Due}
 use Rattle.step_outcome.specs.Carry.{Lent, done}
-use Rattle.step_outcome.specs.declared.Answer.TheVariants.{Refused}
 use Rattle.call_plans.specs.Calls.{Call, promised}
 
 -- a live record that has a deadline, due or not
@@ -54,4 +53,4 @@ fire_told time words = Call.Fire time (get_or words 2 0) (get_or words 3 0) (get
 -- where none is due: the old call stores its time, and each firing is refused and changes nothing
 pub record NoneDue (l : Lent) (time : ℕ) : Type 0 where
   pub stores : clock_of (promised (Call.Timer time) l).table ≡ time
-  pub refused : (role peer tid : ℕ) → (r : Refusal) × (promised (Call.Fire time role peer tid) l ≡ done (Refused r) l.table l.store l.output)
+  pub refused : (role peer tid : ℕ) → (r : Refusal) × (promised (Call.Fire time role peer tid) l ≡ done (Err r) l.table l.store l.output)

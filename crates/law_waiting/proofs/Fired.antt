@@ -6,6 +6,7 @@ use mathlib.Core.Bool.{Bool, true, false}
 use mathlib.Core.List.{List}
 use mathlib.Core.Logic.{◌⊎◌, inl, inr}
 use lib.ListN.{length}
+use Rattle.std.specs.Prelude.{Option, Ok, Err}
 use Rattle.base_lists.proofs.StoresAndParts.{true_false}
 use Rattle.table_record.specs.Record.{state_number, state_of}
 use Rattle.table_record.proofs.Back.{state_back}
@@ -17,11 +18,9 @@ use Rattle.table_layout.specs.declared.Settings.{Settings}
 use Rattle.table_record_ok.specs.OneRecord.{Live, Bounded, InRange}
 use Rattle.table_names_ok.proofs.NamesTest.{role_back_holds}
 use Rattle.table_well_formed.specs.WellFormed.{WellFormed}
-use Rattle.table_finding.specs.declared.Found.{Found}
 use Rattle.row_events.specs.declared.Event.TheVariants as Event
 use Rattle.step_plan.specs.declared.Step.{Step}
-use Rattle.step_plan.specs.declared.Plan.{Plan}
-use Rattle.step_plan.specs.declared.Plan.TheVariants.{Refuse, Go}
+use Rattle.step_plan.specs.Steps.{Plan}
 use Rattle.step_live.specs.Turning.{row_at, live_turn, live_step}
 use Rattle.step_outcome.specs.Carry.{Lent, Done, outcome}
 use Rattle.law_places.proofs.Places.{live_range}
@@ -55,7 +54,7 @@ free_left s r e = rw (number_free r.state e) refl
 
 -- the step of a firing is that of the record that it concerns
 module _ (l : Lent) (w : WellFormed l.table) (place : ℕ) (inside : place < count l.table) (live : Live (record_at l.table place)) where
-  pub firing_step : (c : Call) (step : Step) → fires c ≡ true → plan_for c l ≡ Go step → Concerns c l place → step ≡ live_step l.table place Event.Timer (fired_given (time_of c)) fired_call
+  pub firing_step : (c : Call) (step : Step) → fires c ≡ true → plan_for c l ≡ Ok step → Concerns c l place → step ≡ live_step l.table place Event.Timer (fired_given (time_of c)) fired_call
   unfolding timer_step
   firing_step (Call.Request time peer class user_ack) step f e k = true_false (sym f)
   firing_step (Call.Answer time role peer tid) step f e k = true_false (sym f)
@@ -63,7 +62,7 @@ module _ (l : Lent) (w : WellFormed l.table) (place : ℕ) (inside : place < cou
   firing_step (Call.Abort time role peer tid reason) step f e k = true_false (sym f)
   firing_step (Call.Receive time peer) step f e k = true_false (sym f)
   firing_step (Call.Timer time) step f e k =
-      (Timers.timer_accepted l.table (length l.store) (length l.output) time step e).step_is ∙ ap (λ (x : Found). step_by x l.table time) k
+      (Timers.timer_accepted l.table (length l.store) (length l.output) time step e).step_is ∙ ap (λ (x : Option ℕ). step_by x l.table time) k
   firing_step (Call.Fire time role peer tid) step f e k = go (same_number a.place place)
     where
       a : Fires.Accepted l.table (length l.store) (length l.output) (as_fire time role peer tid) step
@@ -79,13 +78,13 @@ module _ (l : Lent) (w : WellFormed l.table) (place : ℕ) (inside : place < cou
           }))
 
 -- an accepted call has a step
-goes : (e : Entry) → Promise e → accepted e.done.answer ≡ true → (step : Step) × (plan_for e.call e.lent ≡ Go step)
+goes : (e : Entry) → Promise e → accepted e.done.answer ≡ true → (step : Step) × (plan_for e.call e.lent ≡ Ok step)
 unfolding promised outcome
 goes e p k = go (plan_for e.call e.lent) refl (sym (ap (λ (d : Done). accepted d.answer) p.keeps) ∙ k)
   where
-    go : (plan : Plan) → plan_for e.call e.lent ≡ plan → accepted (outcome e.lent plan).answer ≡ true → (step : Step) × (plan_for e.call e.lent ≡ Go step)
-    go (Refuse r) q a = true_false (sym a)
-    go (Go step) q a = (step, q)
+    go : (plan : Plan) → plan_for e.call e.lent ≡ plan → accepted (outcome e.lent plan).answer ≡ true → (step : Step) × (plan_for e.call e.lent ≡ Ok step)
+    go (Err r) q a = true_false (sym a)
+    go (Ok step) q a = (step, q)
 
 module _ (e : Entry) (p : Promise e) (w : WellFormed (before e)) (on : ModeOn (before e)) (all : AllTimed (before e)) (place : ℕ) (f : FiredAt e place) where
   abbrev t : List ℕ
@@ -101,7 +100,7 @@ module _ (e : Entry) (p : Promise e) (w : WellFormed (before e)) (on : ModeOn (b
   unfolding fired_given
   left_of = go (record_left e.call e.lent g.0 p.lends g.1 k x refl)
     where
-      g : (step : Step) × (plan_for e.call e.lent ≡ Go step)
+      g : (step : Step) × (plan_for e.call e.lent ≡ Ok step)
       g = goes e p f.taken
 
       k : TakenBy e.call e.lent g.0

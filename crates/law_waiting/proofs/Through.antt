@@ -4,6 +4,7 @@ use native.Mathlib.Omega.{arith}
 use mathlib.Core.Path.{◌≡◌, refl, sym, ap, subst, ◌∙◌}
 use mathlib.Core.List.{List, []}
 use mathlib.Core.Logic.{◌⊎◌, inl, inr}
+use Rattle.std.specs.Prelude.{Ok, Err}
 use Rattle.base_lists.proofs.StoresAndParts.{lt_or_le}
 use Rattle.table_record.specs.Record.{state_number}
 use Rattle.table_record.specs.declared.Record.{Record}
@@ -12,8 +13,7 @@ use Rattle.table_layout.specs.Table.{count, record_at, settings_of, intervals_of
 use Rattle.table_layout.specs.declared.Settings.{Settings}
 use Rattle.table_record_ok.specs.OneRecord.{Live}
 use Rattle.table_well_formed.specs.WellFormed.{WellFormed}
-use Rattle.step_plan.specs.declared.Plan.{Plan}
-use Rattle.step_plan.specs.declared.Plan.TheVariants.{Refuse, Go}
+use Rattle.step_plan.specs.Steps.{Plan}
 use Rattle.step_live.specs.Turning.{row_at, live_turn}
 use Rattle.call_plans.specs.Calls.{plan_for}
 use Rattle.law_history.specs.Trace.{Entry, Promise, Run}
@@ -74,8 +74,8 @@ module _ (e : Entry) (p : Promise e) (w : WellFormed (before e)) (on : ModeOn (b
       here = rw (around e p w).same_count at inside
 
       go : (plan : Plan) → plan_for e.call e.lent ≡ plan → Timed (record_at (after e) i)
-      go (Refuse r) q = same_timed i here ((refused_quiet e p r q).same i) live
-      go (Go step) q = moved (moves e p step q) i here live
+      go (Err r) q = same_timed i here ((refused_quiet e p r q).same i) live
+      go (Ok step) q = moved (moves e p step q) i here live
 
 -- what is so of a table after any calls: well formed, the settings of the start, and with the mode on all timed
 pub record Waits (t₀ t : List ℕ) : Type 0 where

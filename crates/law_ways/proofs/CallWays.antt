@@ -7,21 +7,18 @@ use mathlib.Core.List.{List, []}
 use mathlib.Core.Logic.{◌⊎◌, inl, inr}
 use lib.ListN.{length}
 use lib.Dec.{eqb}
+use Rattle.std.specs.Prelude.{Option, Some, None, Ok}
 use Rattle.call_receive.proofs.Identity.{identity_fine}
 use Rattle.table_ranges.specs.Ranges.{none as no-identity}
 use Rattle.base_layout.specs.Layout.{exit_bound}
 use Rattle.codec_reading.specs.Read.{pdu_of}
 use Rattle.table_layout.specs.Table.{count, record_at}
 use Rattle.table_finding.specs.Finding.{due_of}
-use Rattle.table_finding.specs.declared.Found.{Found}
-use Rattle.table_finding.specs.declared.Found.TheVariants as Found
 use Rattle.row_events.specs.Events.{event_number}
 use Rattle.row_events.specs.declared.Event.TheVariants as Event
 use Rattle.step_arrivals.specs.Arrivals.{event_of, name_of}
-use Rattle.step_arrivals.specs.declared.Name.TheVariants.{Of}
 use Rattle.step_plan.specs.Steps.{no_part, step_of, idle_step}
 use Rattle.step_plan.specs.declared.Step.{Step}
-use Rattle.step_plan.specs.declared.Plan.TheVariants.{Go}
 use Rattle.step_live.specs.Turning.{live_step}
 use Rattle.step_opening.specs.Opens.{opening_step}
 use Rattle.law_places.specs.Places.{LiveAt}
@@ -53,7 +50,7 @@ no_exit x e = rw e (omega arith)
 module _ (c : Call) (l : Lent) (p : Primitive) (peer : peer_in c ≡ p.peer) (asks : is_request c ≡ false) (silent : fires c ≡ false) (none : is_result_event p.event ≡ false) (no_Abort : eqb (event_number p.event) 9 ≡ false) (time : p.time ≡ time_of c)
     (given : Lends c l → p.len ≡ length l.given) (exit : Lends c l → p.exit_len ≡ length l.exit) (names : (place : ℕ) → NamedBy p.role p.peer p.tid (record_at l.table place) → Concerns c l place)
     (comes : (place : ℕ) → StateAllows l place p.event → Comes c l place p.event (primitive_given p)) where
-  by_primitive : (step : Step) → primitive_plan l.table (length l.store) (length l.output) p ≡ Go step → Accepted c l step
+  by_primitive : (step : Step) → primitive_plan l.table (length l.store) (length l.output) p ≡ Ok step → Accepted c l step
   unfolding primitive_step live_step step_of primitive_given primitive_call
   by_primitive step e =
       let a = Primitives.primitive_accepted l.table (length l.store) (length l.output) p step e in
@@ -124,7 +121,7 @@ module _ (l : Lent) (time peer : ℕ) (step : Step)
 
 -- a firing of the live record at a place, by the timer call or by its name
 module _ (c : Call) (l : Lent) (a : Entered l.table (length l.store) (length l.output) (time_of c)) (silent : is_request c ≡ false) (told : fires c ≡ true) (alone : Lends c l → l.exit ≡ []) where
-  by_firing : (i : ℕ) (step : Step) → step ≡ step_by (Found.At i) l.table (time_of c) → LiveAt l.table i → Concerns c l i → Comes c l i Event.Timer (fired_given (time_of c)) → Accepted c l step
+  by_firing : (i : ℕ) (step : Step) → step ≡ step_by (Some i) l.table (time_of c) → LiveAt l.table i → Concerns c l i → Comes c l i Event.Timer (fired_given (time_of c)) → Accepted c l step
   unfolding live_step step_of fired_given fired_call no_part
   by_firing i step is live concerns comes = record {
     fits = a.fitting;
@@ -151,12 +148,12 @@ module _ (c : Call) (l : Lent) (a : Entered l.table (length l.store) (length l.o
 
 -- the timer call
 module _ (l : Lent) (time : ℕ) (step : Step) (a : Entered l.table (length l.store) (length l.output) time) where
-  by_due : (f : Found) → due_of l.table (count l.table) time ≡ f → step ≡ step_by f l.table time → Accepted (Call.Timer time) l step
+  by_due : (f : Option ℕ) → due_of l.table (count l.table) time ≡ f → step ≡ step_by f l.table time → Accepted (Call.Timer time) l step
   unfolding no_part idle_step
-  by_due (Found.At i) q is = by_firing (Call.Timer time) l a refl refl (λ k. k.1) i step is (due_live l.table a.fitting.formed time i q) q refl
-  by_due Found.Nothing q is = record { fits = a.fitting; small = rw is (omega arith); exit_fits = λ k. no_exit l.exit k.1; way = inl record { step_is = is; bounded = a.bounded; no_request = refl; no_primitive = refl } }
+  by_due (Some i) q is = by_firing (Call.Timer time) l a refl refl (λ k. k.1) i step is (due_live l.table a.fitting.formed time i q) q refl
+  by_due None q is = record { fits = a.fitting; small = rw is (omega arith); exit_fits = λ k. no_exit l.exit k.1; way = inl record { step_is = is; bounded = a.bounded; no_request = refl; no_primitive = refl } }
 
-pub call_ways : (c : Call) (l : Lent) (step : Step) → plan_for c l ≡ Go step → Accepted c l step
+pub call_ways : (c : Call) (l : Lent) (step : Step) → plan_for c l ≡ Ok step → Accepted c l step
 unfolding request_step opening_step step_of request_call primitive_given timer_step
 call_ways (Call.Request time peer class user_ack) l step e =
     let a = Requests.request_accepted l.table (length l.store) (length l.output) (as_request time peer class user_ack (length l.given)) step e in
