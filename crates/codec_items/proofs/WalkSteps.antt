@@ -1,33 +1,34 @@
--- Laws of the walk's definitions, step by step. Assumes nothing.
+-- Laws of the walk's definitions, step by step: k of the items that are permitted have been passed. Assumes nothing.
 use mathlib.Core.Path.{◌≡◌}
 use mathlib.Core.List.{List}
-use Prim.Native.Nat.{ℕ, zero, suc, ◌-◌, ◌≤◌}
+use Prim.Native.Nat.{ℕ, suc, ◌+◌, ◌-◌, ◌≤◌, ◌<◌}
 use Rattle.std.specs.Prelude.{Err, None}
 use Rattle.base_numbers.specs.declared.Malformed.TheVariants.{D4}
 use native.Mathlib.Omega.{arith}
-use native.Mathlib.Numerals.{sub-one}
 use Rattle.codec_items.specs.Found.{end_from, end_after_is, place_from, place_after}
 use Rattle.codec_items.specs.Items.{item_at}
 use Rattle.codec_items.specs.declared.Sought.{Sought}
 
-module _ (s : List ℕ) (at : ℕ) where
-  pub end_last : (k : ℕ) → k ≡ 1 → end_from (k - 1) s at ≡ Err D4
-  unfolding end_from
-  end_last k e = rw e
+none_left : (left k : ℕ) → left ≤ k → left - k ≡ 0
+none_left left k h = omega arith
 
-  pub end_more : (k : ℕ) → 1 ≤ k → end_from k s at ≡ end_after_is (end_from (k - 1) s) (item_at s at)
+one_less : (left k : ℕ) → k < left → left - k ≡ suc (left - (k + 1))
+one_less left k h = omega arith
+
+module _ (s : List ℕ) (at : ℕ) (left k : ℕ) where
+  pub end_none : left ≤ k → end_from (left - k) s at ≡ Err D4
   unfolding end_from
-  end_more zero h = absurd (omega arith)
-  end_more (suc k) h = rw sub-one
+  end_none h = rw (none_left left k h)
+
+  pub end_more : k < left → end_from (left - k) s at ≡ end_after_is (end_from (left - (k + 1)) s) (item_at s at)
+  unfolding end_from
+  end_more h = rw (one_less left k h)
 
   module _ (sought : Sought) where
-    pub place_last : (k : ℕ) → k ≤ 1 → place_from sought (k - 1) s at ≡ None
+    pub place_none : left ≤ k → place_from sought (left - k) s at ≡ None
     unfolding place_from
-    place_last k e = rw (none k e) where
-      none : (k : ℕ) → k ≤ 1 → k - 1 ≡ 0
-      none k e = omega arith
+    place_none h = rw (none_left left k h)
 
-    pub place_more : (k : ℕ) → 1 ≤ k → place_from sought k s at ≡ place_after sought at (place_from sought (k - 1) s) (item_at s at)
+    pub place_more : k < left → place_from sought (left - k) s at ≡ place_after sought at (place_from sought (left - (k + 1)) s) (item_at s at)
     unfolding place_from
-    place_more zero h = absurd (omega arith)
-    place_more (suc k) h = rw sub-one
+    place_more h = rw (one_less left k h)

@@ -82,19 +82,20 @@ pub fn item_at(s: &[u8], at: usize) -> Option<Got>
 }
 
 // The place after the items from `at` on, of which `left` are still permitted; D3 where one is cut, D4 where one more follows.
-#[tactic(auto, using(crate::proofs::WalkSteps::end_last, crate::proofs::WalkSteps::end_more))]
+#[tactic(auto, using(crate::proofs::WalkSteps::end_none, crate::proofs::WalkSteps::end_more))]
 pub fn end_from(s: &[u8], at: usize, left: usize) -> Result<usize, Malformed>
     requires { 1 ≤ left }
     ensures { result ≡ end_from left s.now at }
 {
-    let got = item_at(s, at).ok_or(Malformed::D3)?;
-    if !got.con {
-        return Ok(got.next);
+    let mut next = at;
+    for _ in 0..left {
+        let got = item_at(s, next).ok_or(Malformed::D3)?;
+        if !got.con {
+            return Ok(got.next);
+        }
+        next = got.next;
     }
-    if left == 1 {
-        return Err(Malformed::D4);
-    }
-    end_from(s, got.next, left - 1)
+    Err(Malformed::D4)
 }
 
 // Whether an item of this identity is sought: 1 is Info; 8.4 knows 0 to 5.
@@ -107,21 +108,24 @@ fn is_sought(sought: Sought, identity: u8) -> bool
     }
 }
 
-// The place of the first item sought among the items from `at` on, `left` at most.
-#[tactic(auto, using(crate::proofs::WalkSteps::place_last, crate::proofs::WalkSteps::place_more))]
-pub fn place_from(s: &[u8], at: usize, left: usize, sought: Sought) -> Option<usize>
-    requires { 1 ≤ left }
-    ensures { result ≡ place_from sought left s.now at }
+// The place of the first item sought among the items from `at` on, `most` at most.
+#[tactic(auto, using(crate::proofs::WalkSteps::place_none, crate::proofs::WalkSteps::place_more))]
+pub fn place_from(s: &[u8], at: usize, most: usize, sought: Sought) -> Option<usize>
+    requires { 1 ≤ most }
+    ensures { result ≡ place_from sought most s.now at }
 {
-    let got = item_at(s, at)?;
-    if is_sought(sought, got.item.identity) {
-        return Some(at);
+    let mut next = at;
+    for _ in 0..most {
+        let got = item_at(s, next)?;
+        if is_sought(sought, got.item.identity) {
+            return Some(next);
+        }
+        if !got.con {
+            return None;
+        }
+        next = got.next;
     }
-    if got.con && 1 < left {
-        place_from(s, got.next, left - 1, sought)
-    } else {
-        None
-    }
+    None
 }
 
 // The data of the item at a place.

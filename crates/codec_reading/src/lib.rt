@@ -127,8 +127,10 @@ fn head_of(s: &[u8]) -> Head
         bad_head(Malformed::D2)
     } else if s.len() < 3 {
         bad_head(Malformed::D1)
-    } else if typ == 2 || typ == 3 {
-        good_head(s, typ, 0, 3)
+    } else if typ == 2 {
+        good_head(s, 2, 0, 3)
+    } else if typ == 3 {
+        good_head(s, 3, 0, 3)
     } else {
         long_head(s)
     }
