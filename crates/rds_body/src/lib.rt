@@ -209,10 +209,11 @@ pub fn manage(t: &[u8], at: usize, response: bool) -> Option<Managed>
     ensures { result ≡ managed_of t.now at response }
 {
     let action = *t.first()? % 16;
-    match form_of(action, response)? {
-        Form::Asking => asking_in(t, at, action).map(no_list),
-        Form::Answer => answer_in(t, action).map(no_list),
-        Form::Query => query_in(t, action).map(no_list),
-        Form::List => listed(t, at, action),
-    }
+    let body = match form_of(action, response)? {
+        Form::Asking => asking_in(t, at, action)?,
+        Form::Answer => answer_in(t, action)?,
+        Form::Query => query_in(t, action)?,
+        Form::List => return listed(t, at, action),
+    };
+    Some(no_list(body))
 }

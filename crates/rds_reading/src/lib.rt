@@ -74,9 +74,9 @@ fn u_body(s: &[u8], at: usize, ads: bool, m: u8, response: bool) -> Option<Manag
 {
     let len = s.len() - at;
     match m {
-        1 | 4 => empty(s.len(), at).map(rds_body::no_list),
+        1 | 4 => Some(rds_body::no_list(empty(s.len(), at)?)),
         10 => manage(s, at, ads, response),
-        11 => items(s, at).map(rds_body::no_list),
+        11 => Some(rds_body::no_list(items(s, at)?)),
         _ => Some(rds_body::no_list(Body::Information { start: at, len })),
     }
 }
@@ -92,7 +92,7 @@ fn body_of(s: &[u8], at: usize, ads: bool, kind: Kind) -> Option<Managed>
         Kind::I { .. } | Kind::Ui { .. } => {
             Some(rds_body::no_list(Body::Information { start: at, len }))
         }
-        Kind::S { .. } => empty(s.len(), at).map(rds_body::no_list),
+        Kind::S { .. } => Some(rds_body::no_list(empty(s.len(), at)?)),
         Kind::U { m, response } => u_body(s, at, ads, m, response),
     }
 }
