@@ -143,4 +143,4 @@ module _ (s : List ℕ) (network : Bool) (octet : (i : ℕ) → get_or s i 0 < 2
   -- and are accepted
   pub read_accepted : Accepted s G
   unfolding accepts
-  read_accepted = rw same_words_holds (le-leb (size_of s (unended G)) 1520 kept.small)
+  read_accepted = (words_say, rw same_words_holds (le-leb (size_of s (unended G)) 1520 kept.small))

@@ -27,7 +27,7 @@ use Rattle.rds_writing.proofs.Own.{length_kind_words}
 use Rattle.rds_writing.proofs.Said.{said_full}
 use Rattle.rds_written.specs.Trips.{unplaced_head, unplaced_entry, unplaced, body_part, entry_part}
 use Rattle.rds_cleared.proofs.Headers.{head_said_holds}
-use Rattle.rds_again.specs.Again.{unended}
+use Rattle.rds_again.specs.Again.{unended, Accepted}
 use Rattle.rds_again.specs.Elsewhere.{PartInside, Elsewhere}
 use Rattle.rds_again.proofs.Plain.{Kept}
 use Rattle.rds_again.proofs.Accepted.{kept, head_was, words_say}
@@ -152,7 +152,7 @@ module _ (f : List ℕ) (network : Bool) (octet : (i : ℕ) → get_or f i 0 < 2
   unfolding same_words words_of head_words
   same_words_holds = every_all (λ i. eqb (get_or (words_of (unended g)) i 0) (get_or (words_of g) i 0)) 100 (λ i l. eq-eqb (get_or (words_of (unended g)) i 0) (get_or (words_of g) i 0) refl)
 
-  -- and are accepted
-  pub elsewhere_accepted : accepts (words_of g) s (unended g) ≡ true
+  -- and are accepted as what they say
+  pub elsewhere_accepted : Accepted s g
   unfolding accepts
-  elsewhere_accepted = rw same_words_holds (le-leb (size_of s (unended g)) 1520 small)
+  elsewhere_accepted = (elsewhere_said, rw same_words_holds (le-leb (size_of s (unended g)) 1520 small))

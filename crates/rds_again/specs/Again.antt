@@ -10,10 +10,10 @@ use Rattle.rds_written.specs.Trips.{unplaced_head}
 abbrev pub unended : Frame → Frame
 unended f = record { head = unplaced_head f.head; body = f.body; list = f.list }
 
--- the words that were read say the frame g that was read
+-- the words of the frame g say it
 abbrev pub Said : Frame → Type 0
 Said g = frame_said (words_of g) ≡ Some (unended g)
 
--- and are accepted, each part inside the frame's own octets s
+-- and are accepted as what they say, each part inside the octets s
 abbrev pub Accepted : List ℕ → Frame → Type 0
-Accepted s g = accepts (words_of g) s (unended g) ≡ true
+Accepted s g = Said g × (accepts (words_of g) s (unended g) ≡ true)

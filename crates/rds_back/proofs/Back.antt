@@ -29,7 +29,7 @@ use Rattle.rds_pieces.specs.Octets.{bitmap_octets, list_pieces, pieces_of}
 use Rattle.rds_encoding.specs.Encoding.{head_octets, entries_octets, pieces_octets, octets_of}
 use Rattle.rds_said.specs.Said.{frame_said}
 use Rattle.rds_back.specs.Spare.{cleared_ports, cleared_entries, cleared_form, cleared_by, cleared_manage, cleared_body, cleared_after, cleared}
-use Rattle.rds_again.specs.Again.{unended}
+use Rattle.rds_again.specs.Again.{unended, Said}
 use Rattle.rds_again.proofs.Plain.{Each, each_at}
 use Rattle.rds_reading.proofs.Parts.{same_frames, parts_of}
 use Rattle.rds_words.specs.Words.{words_of}
@@ -165,8 +165,11 @@ module _ (s : List ℕ) (network : Bool) (octet : (i : ℕ) → get_or s i 0 < 2
       let rest = each_at (λ (m : Managed). octets s m ≡ cleared_body g.head.kind (drop g.head.end s)) (body_by s g.head.end g.head.ads g.head.kind) m (short_body s network octet g sound).1 (body_cleared s octet g.head.end g.head.ads g.head.kind) in
       λ i. (head_was s network octet g sound).octets i ++ rest i
 
-  pub read_written : (f : Frame) → frame_said (words_of g) ≡ Some f → octets_of s f network ≡ cleared s network
+  -- the words say a frame, and what they say is written as the frame that was read, with its spare bits cleared
+  pub read_written : Said g × ((f : Frame) → frame_said (words_of g) ≡ Some f → octets_of s f network ≡ cleared s network)
   unfolding cleared
-  read_written f said =
-      ap (λ (x : Frame). octets_of s x network) (same_frames f (unended g) (sym said ∙ words_say s network octet g sound))
-      ∙ same_octets ∙ ap (λ (h : Option Head). cleared_after h s) (sym (parts_of s network g sound).heads)
+  read_written = (words_say s network octet g sound, written) where
+    written : (f : Frame) → frame_said (words_of g) ≡ Some f → octets_of s f network ≡ cleared s network
+    written f said =
+        ap (λ (x : Frame). octets_of s x network) (same_frames f (unended g) (sym said ∙ words_say s network octet g sound))
+        ∙ same_octets ∙ ap (λ (h : Option Head). cleared_after h s) (sym (parts_of s network g sound).heads)
